@@ -7,7 +7,7 @@ use Rattle.ct_words.specs.Text.{word_text}
 use Rattle.ct_words.proofs.TextLemmas.{length-word_text}
 use Rattle.ct_words.specs.declared.entry.Entry.{Entry}
 use Rattle.ct_words.proofs.EntryLemmas.{entry_limits}
-use Rattle.ct_text.specs.Id.{is_id}
+use Rattle.ct_names.specs.Id.{is_id}
 use Rattle.ct_build.specs.Build.{FieldsFit, FitsStated}
 use Rattle.ct_build.specs.declared.step.Step.{Step}
 use Rattle.ct_build.specs.declared.step.Step.TheVariants.{Lengthen, AppendOne, Parity, Puncture, Shorten, Translate, Complement, Select, Uuv, Juxtapose, Trim}

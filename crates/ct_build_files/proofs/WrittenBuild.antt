@@ -8,7 +8,7 @@ use Rattle.std.proofs.lemmas.List.Elements.{All-head, All-tail}
 use Rattle.std.proofs.lemmas.Str.Ascii.{IsAscii-nil, IsAscii-cons}
 use Rattle.toml.specs.Data.{string, integer, table, Members, get, get_member, items_depth, members_depth}
 use Rattle.toml.specs.View.{items_of}
-use Rattle.ct_text.specs.Id.{is_id}
+use Rattle.ct_names.specs.Id.{is_id}
 use Rattle.ct_words.specs.Text.{word_text}
 use Rattle.ct_words.specs.declared.entry.Entry.{Entry}
 use Rattle.ct_words.proofs.EntryLemmas.{WeightFits, entry_limits}

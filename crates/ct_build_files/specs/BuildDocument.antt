@@ -3,7 +3,7 @@ use Rattle.std.specs.Prelude.{◌≡◌, ℕ, pos, ◌+◌, true, false, List, m
 use Rattle.toml.specs.Data.{Data, string, integer, array, get}
 use Rattle.toml.specs.View.{items_of}
 use Rattle.ct_words.specs.Text.{word_text}
-use Rattle.ct_text.specs.Id.{is_id}
+use Rattle.ct_names.specs.Id.{is_id}
 use Rattle.ct_words.specs.declared.entry.Entry.{Entry}
 use Rattle.ct_build.specs.Build.{FieldsFit}
 use Rattle.ct_build.specs.declared.step.Step.{Step}

@@ -14,7 +14,7 @@ use crate::operation::Operation;
 use ct_build::Step;
 use ct_fields::{DocumentFault, FieldName, last_fields};
 use ct_kind::Evidence;
-use ct_text::Id;
+use ct_names::Id;
 use ct_words::Entry;
 use std::alloc::Global;
 use toml::Value;

@@ -10,7 +10,7 @@ ghost use Rattle.ct_build_files.specs.BuildFields.{operation_field, ascend, are_
 use crate::operation::Operation;
 use ct_build::{MAX_BUILT, Step};
 use ct_fields::{DocumentFault, FieldName, all_of, id_in, number_field};
-use ct_text::Id;
+use ct_names::Id;
 use ct_words::{Listed, MAX_N, Word, parse_word};
 use std::alloc::{AllocError, Global};
 use toml::Value;

@@ -13,7 +13,7 @@ ghost use Rattle.ct_build_files.specs.BuildKind.{build_refusal, step_reason, bui
 use crate::codes::Codes;
 use ct_build::{BuildFault, Shape, Step, apply, told_size};
 use ct_kind::{Kind, SubmitFault};
-use ct_text::Id;
+use ct_names::Id;
 use ct_words::{Code, Entry};
 use std::alloc::Global;
 

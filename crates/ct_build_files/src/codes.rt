@@ -6,7 +6,7 @@ ghost use Rattle.ct_build.specs.Build.{shape_of, IsShape};
 ghost use Rattle.ct_kind.specs.Named.{NamedCode, is_known, code_named};
 
 use ct_build::Shape;
-use ct_text::Id;
+use ct_names::Id;
 
 /// The pieces that stand, as a build asks what is known of their codes without a word of them: by their ids, the first piece of an id.
 pub trait Codes {

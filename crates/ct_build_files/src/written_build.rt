@@ -5,7 +5,7 @@ ghost use Rattle.toml.specs.Data.{string, integer};
 ghost use Rattle.toml.specs.View.{view, table_view};
 ghost use Rattle.ct_words.specs.declared.limits.TheConstants.{MAX_N};
 ghost use Rattle.ct_words.specs.Text.{word_text};
-ghost use Rattle.ct_text.specs.Id.{is_id};
+ghost use Rattle.ct_names.specs.Id.{is_id};
 ghost use Rattle.ct_build.specs.Build.{FieldsFit};
 ghost use Rattle.ct_fields.specs.Written.{put};
 ghost use Rattle.ct_build_files.specs.Operation.{operation_text, operation_of};
@@ -14,7 +14,7 @@ ghost use Rattle.ct_build_files.specs.WrittenBuild.{number_list, digits_text, pu
 use crate::operation::Operation;
 use ct_build::Step;
 use ct_fields::{FieldName, entry_table, id_value, put, put_weight, word_value};
-use ct_text::Id;
+use ct_names::Id;
 use ct_words::{Entry, Word};
 use std::alloc::{AllocError, Global};
 use toml::{Table, Value};

@@ -13,9 +13,9 @@ use Rattle.std.proofs.lemmas.List.Splits.{slice_split_none, slice_split_at}
 use Rattle.std.proofs.lemmas.List.Sums.{AllPass-from_list_all}
 use Rattle.ct_text.specs.declared.document_lines.TheConstants.{LINE_FEED}
 use Rattle.ct_io.specs.Lines.{IsLine}
-use Rattle.ct_text.specs.Id.{is_id, is_id_byte}
+use Rattle.ct_names.specs.Id.{is_id, is_id_byte}
 use Rattle.ct_text.specs.Line.{words_of}
-use Rattle.ct_text.specs.declared.id.TheConstants.{MAX_ID}
+use Rattle.ct_names.specs.declared.id.TheConstants.{MAX_ID}
 
 -- the bytes come after the space (32)
 abbrev AreVisible : List ℕ → Type 0

@@ -5,7 +5,7 @@ use Rattle.std.specs.Str.{bytes_eq}
 use Rattle.ct_words.specs.declared.claim.Side.{Side}
 use Rattle.ct_text.specs.Line.{words_of}
 use Rattle.ct_text.specs.Number.{number_of}
-use Rattle.ct_text.specs.Id.{is_id}
+use Rattle.ct_names.specs.Id.{is_id}
 use Rattle.ct_text.specs.Side.{side_of_word}
 use Rattle.ct_text.specs.EntryNumbers.{entry_numbers_of}
 use Rattle.ct_text.specs.TableNumbers.{table_numbers_of}

@@ -1,6 +1,7 @@
 //! The commands of a session.
 
-use ct_text::{EntryNumbers, Id, TableNumbers, Text};
+use ct_names::Id;
+use ct_text::{EntryNumbers, TableNumbers, Text};
 use ct_words::Side;
 
 /// A command of a session.

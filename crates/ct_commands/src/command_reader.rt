@@ -6,7 +6,8 @@ ghost use Rattle.ct_commands.specs.Command.{open_after, completed_by, cut_off};
 
 use crate::command::Command;
 use crate::form::{Form, read_form};
-use ct_text::{Gathered, Gathering, Id};
+use ct_names::Id;
+use ct_text::{Gathered, Gathering};
 use std::alloc::{AllocError, Global};
 use std::marker::Model;
 

@@ -7,8 +7,9 @@ ghost use Rattle.ct_text.specs.TableNumbers.{table_numbers_of};
 ghost use Rattle.ct_commands.specs.Form.{form_of, words_form, submit_form, lines_form, withdrawal, alone, explanation, command_of};
 
 use crate::command::Command;
+use ct_names::Id;
 use ct_text::{
-    Extent, Id, first_words, parse_entry_numbers, parse_number, parse_side, parse_table_numbers,
+    Extent, first_words, parse_entry_numbers, parse_number, parse_side, parse_table_numbers,
 };
 use std::alloc::{AllocError, Global};
 

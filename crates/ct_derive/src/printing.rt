@@ -7,7 +7,8 @@ ghost use Rattle.ct_derive.specs.Text.{block_text, derivation_text};
 
 use crate::derivation::Derivation;
 use crate::text::{put_evidence, put_lines};
-use ct_text::{Id, LINE_FEED};
+use ct_names::Id;
+use ct_text::LINE_FEED;
 use std::alloc::{AllocError, Global};
 
 /// A piece of evidence as a derivation document shows it.

@@ -7,8 +7,9 @@ ghost use Rattle.ct_derive.specs.Check.{numbers_at};
 ghost use Rattle.ct_derive.specs.Derivation.{AreOrdered};
 ghost use Rattle.ct_derive.specs.Text.{id_word, argument_words, rule_words, side_text, claim_words, from_words, reason_words, line_text, lines_text, evidence_text};
 
+use ct_names::Id;
 use ct_rules::{Arguments, Line, Rule, arguments_of, rule_name};
-use ct_text::{Id, LINE_FEED, line_count, put_entry_words, put_number, put_spaced};
+use ct_text::{LINE_FEED, line_count, put_entry_words, put_number, put_spaced};
 use ct_words::{Claim, Side};
 use std::alloc::{AllocError, Global};
 

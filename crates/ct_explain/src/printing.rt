@@ -5,8 +5,8 @@ ghost use Rattle.ct_derive.specs.Derivation.{AreOrdered};
 ghost use Rattle.ct_explain.specs.Explained.{explanation_text};
 
 use ct_derive::{Derivation, ShownPiece};
+use ct_names::Id;
 use ct_pieces::Piece;
-use ct_text::Id;
 use std::alloc::{AllocError, Global};
 use std::marker::Model;
 

@@ -5,7 +5,7 @@ use Rattle.std.proofs.lemmas.Bool.{cases_Bool, leb-true, lt-leb, false≢true}
 use Rattle.toml.specs.Data.{Data, string, integer, float, boolean, datetime, array, table, get}
 use Rattle.toml.specs.View.{items_of, items_view}
 use Rattle.toml.specs.declared.value.Value.{Value}
-use Rattle.ct_text.specs.Cite.{is_cite}
+use Rattle.ct_names.specs.Cite.{is_cite}
 use Rattle.ct_fields.specs.Field.{field_text}
 use Rattle.ct_fields.specs.Forms.{all_of}
 use Rattle.ct_fields.specs.Format.{format_of, may_cite}

@@ -12,7 +12,7 @@ use Rattle.toml_parser.specs.Strings.{Key}
 use Rattle.toml.specs.Data.{string, integer, Members}
 use Rattle.toml.specs.View.{items_of}
 use Rattle.toml.specs.Text.{IsValueText, IsItemsText, is_section, section}
-use Rattle.ct_text.specs.Cite.{is_cite, is_cite_byte}
+use Rattle.ct_names.specs.Cite.{is_cite, is_cite_byte}
 use Rattle.ct_fields.specs.Forms.{list_data}
 use Rattle.ct_fields.specs.Cites.{IsCites}
 use Rattle.ct_fields.specs.Written.{put, put_cites, cites_bytes}

@@ -6,8 +6,8 @@ use Rattle.std.proofs.lemmas.Bool.{and_parts, leb-true}
 use Rattle.std.proofs.lemmas.Option.{cond_some}
 use Rattle.std.proofs.lemmas.Str.Ascii.{IsAscii-nil, IsAscii-cons}
 use Rattle.toml.specs.Data.{Data, string, integer, float, boolean, datetime, array, table}
-use Rattle.ct_text.specs.declared.cite.TheConstants.{MAX_CITE}
-use Rattle.ct_text.specs.Cite.{is_cite, is_cite_byte}
+use Rattle.ct_names.specs.declared.cite.TheConstants.{MAX_CITE}
+use Rattle.ct_names.specs.Cite.{is_cite, is_cite_byte}
 use Rattle.ct_fields.specs.Cites.{cite_in}
 
 -- the bytes of a cite are printable

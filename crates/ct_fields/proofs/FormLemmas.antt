@@ -8,7 +8,7 @@ use Rattle.toml.specs.Data.{Data, string, integer, float, boolean, datetime, arr
 use Rattle.toml.specs.View.{view, items_of}
 use Rattle.toml.specs.declared.value.Value.{Value}
 use Rattle.ct_words.specs.declared.limits.TheConstants.{MAX_N}
-use Rattle.ct_text.specs.Id.{is_id}
+use Rattle.ct_names.specs.Id.{is_id}
 use Rattle.ct_fields.specs.Fields.{number_in}
 use Rattle.ct_fields.specs.Ids.{id_in}
 use Rattle.ct_fields.specs.Forms.{two_in, pair_in, all_of, pair_data}

@@ -8,8 +8,8 @@ use Rattle.std.proofs.Math.Bool.{or-false}
 use Rattle.std.proofs.lemmas.Option.{cond_some}
 use Rattle.std.proofs.lemmas.Str.Ascii.{IsAscii-nil, IsAscii-cons}
 use Rattle.toml.specs.Data.{Data, string, integer, float, boolean, datetime, array, table}
-use Rattle.ct_text.specs.declared.id.TheConstants.{MAX_ID}
-use Rattle.ct_text.specs.Id.{is_id, is_id_byte}
+use Rattle.ct_names.specs.declared.id.TheConstants.{MAX_ID}
+use Rattle.ct_names.specs.Id.{is_id, is_id_byte}
 use Rattle.ct_fields.specs.Ids.{id_in}
 
 -- what may stand in an id is ASCII, and so is an id

@@ -12,8 +12,8 @@ use Rattle.toml_parser.specs.Lexical.{is_bare}
 use Rattle.toml.specs.Data.{Data, string, integer, Members, no_members, member}
 use Rattle.ct_words.specs.Text.{word_text, is_binary_digit}
 use Rattle.ct_words.proofs.TextLemmas.{length-word_text, digits-word_text}
-use Rattle.ct_text.specs.Id.{is_id, is_id_byte}
-use Rattle.ct_text.specs.declared.id.TheConstants.{MAX_ID}
+use Rattle.ct_names.specs.Id.{is_id, is_id_byte}
+use Rattle.ct_names.specs.declared.id.TheConstants.{MAX_ID}
 use Rattle.ct_fields.specs.Written.{word_texts, set_member, put_weight, entry_table}
 use Rattle.ct_fields.specs.Inside.Room.{IsBare, IsSimple, IsSimpleTable, room, table_room}
 

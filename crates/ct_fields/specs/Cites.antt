@@ -2,7 +2,7 @@
 use Rattle.std.specs.Prelude.{ℕ, suc, ◌≤◌, nat_le, if◌then◌else◌, List, [], length, Option, Some, None, Result, Ok, ok_or, All, IsTrue}
 use Rattle.std.specs.Option.{option_and_then}
 use Rattle.toml.specs.Data.{Data, array, Items, no_items, item, get, as_str}
-use Rattle.ct_text.specs.Cite.{is_cite, cite_of}
+use Rattle.ct_names.specs.Cite.{is_cite, cite_of}
 use Rattle.ct_fields.specs.Field.{field_text}
 use Rattle.ct_fields.specs.Forms.{all_of}
 use Rattle.ct_fields.specs.Format.{may_cite}

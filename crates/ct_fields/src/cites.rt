@@ -2,7 +2,7 @@
 ghost use Rattle.std.specs.Prelude.{◌≡◌, ◌≤◌, All, IfOk, IsTrue, is_ok, is_some, length, option_map};
 ghost use Rattle.toml.specs.Data.{string};
 ghost use Rattle.toml.specs.View.{view, items_view};
-ghost use Rattle.ct_text.specs.Cite.{is_cite};
+ghost use Rattle.ct_names.specs.Cite.{is_cite};
 ghost use Rattle.ct_fields.specs.Reads.{Reads};
 ghost use Rattle.ct_fields.specs.Forms.{all_of, list_data};
 ghost use Rattle.ct_fields.specs.Cites.{cite_in, cites_in, cites_of};
@@ -10,7 +10,7 @@ ghost use Rattle.ct_fields.specs.Cites.{cite_in, cites_in, cites_of};
 use crate::fault::DocumentFault;
 use crate::field::FieldName;
 use crate::formats::may_cite;
-use ct_text::{Cite, is_cite};
+use ct_names::{Cite, is_cite};
 use std::alloc::{AllocError, Global};
 use toml::Value;
 

@@ -6,7 +6,7 @@ ghost use Rattle.ct_fields.specs.Forms.{two_in, all_of};
 
 use crate::fields::number_in;
 use crate::ids::id_in;
-use ct_text::Id;
+use ct_names::Id;
 use ct_words::MAX_N;
 use std::alloc::{AllocError, Global};
 use toml::Value;

@@ -2,10 +2,10 @@
 ghost use Rattle.std.specs.Prelude.{◌≡◌, IfOk, IsTrue};
 ghost use Rattle.toml.specs.Data.{string};
 ghost use Rattle.toml.specs.View.{view};
-ghost use Rattle.ct_text.specs.Id.{is_id};
+ghost use Rattle.ct_names.specs.Id.{is_id};
 ghost use Rattle.ct_fields.specs.Ids.{id_in};
 
-use ct_text::Id;
+use ct_names::Id;
 use std::alloc::{AllocError, Global};
 use toml::Value;
 

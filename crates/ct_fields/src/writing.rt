@@ -4,12 +4,12 @@ ghost use Rattle.toml.specs.Data.{string, integer, array};
 ghost use Rattle.toml.specs.View.{view, table_view, items_of};
 ghost use Rattle.ct_words.specs.declared.limits.TheConstants.{MAX_N};
 ghost use Rattle.ct_words.specs.Text.{word_text};
-ghost use Rattle.ct_text.specs.Cite.{is_cite};
+ghost use Rattle.ct_names.specs.Cite.{is_cite};
 ghost use Rattle.ct_fields.specs.Written.{word_texts, set_member, put, put_weight, put_cites, entry_table};
 
 use crate::cites::cite_values;
 use crate::field::FieldName;
-use ct_text::Cite;
+use ct_names::Cite;
 use ct_words::{Word, print_word};
 use std::alloc::{AllocError, Global};
 use toml::{Table, Value};

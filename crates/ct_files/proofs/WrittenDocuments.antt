@@ -4,7 +4,7 @@ use Rattle.std.specs.Prelude.{IsTrue}
 use Rattle.std.proofs.lemmas.List.Elements.{All-nil}
 use Rattle.toml.specs.Data.{Data, table, get, Members}
 use Rattle.toml.specs.Text.{IsDocumentText}
-use Rattle.ct_text.specs.Cite.{is_cite}
+use Rattle.ct_names.specs.Cite.{is_cite}
 use Rattle.ct_fields.specs.Field.{field_text}
 use Rattle.ct_fields.specs.Steps.{◌>>=◌}
 use Rattle.ct_fields.specs.Document.{table_of}

@@ -1,7 +1,7 @@
 //! What a document holds.
 
 use ct_kind::Evidence;
-use ct_text::Cite;
+use ct_names::Cite;
 
 /// An evidence, and the texts that say where it comes from.
 #[derive(Drop)]

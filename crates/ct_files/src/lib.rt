@@ -9,6 +9,6 @@ mod writing;
 pub use contents::Document;
 pub use ct_fields::{DocumentFault, FieldName, MAX_CITES, MAX_DOCUMENT};
 pub use ct_kind::Evidence;
-pub use ct_text::Cite;
+pub use ct_names::Cite;
 pub use reading::{read_document, read_evidence};
 pub use writing::{write_document, write_evidence};

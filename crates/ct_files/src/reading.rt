@@ -1,7 +1,7 @@
 //! The evidence of a document, and what is cited for it.
 ghost use Rattle.std.specs.Prelude.{◌≡◌, ◌≢◌, ◌≤◌, All, Ok, Err, IfOk, IfErr, IsTrue, length};
 ghost use Rattle.toml.specs.View.{view};
-ghost use Rattle.ct_text.specs.Cite.{is_cite};
+ghost use Rattle.ct_names.specs.Cite.{is_cite};
 ghost use Rattle.ct_fields.specs.declared.cites.TheConstants.{MAX_CITES};
 ghost use Rattle.ct_fields.specs.Reads.{Reads};
 ghost use Rattle.ct_files.specs.Kinds.{kind_in, evidence_by};
@@ -156,7 +156,7 @@ pub fn read_document(alloc: Global, bytes: &[u8]) -> Result<Document, DocumentFa
 /// stands, the weight, it is an integer from 0 to n, and d is even.
 ///
 /// The key `format` may stand too, with 1 or 2; where it is left out the format is 1. In format 2 the key `cites` may stand: a
-/// list of at most `MAX_CITES` texts, each of 1 to `ct_text::MAX_CITE` bytes from 32 to 126. In format 1 no kind names it.
+/// list of at most `MAX_CITES` texts, each of 1 to `ct_names::MAX_CITE` bytes from 32 to 126. In format 1 no kind names it.
 ///
 /// | `kind` | further keys |
 /// |---|---|

@@ -2,7 +2,7 @@
 
 use ct_build::Step;
 use ct_files::{Evidence, FieldName, MAX_DOCUMENT, read_evidence};
-use ct_text::Id;
+use ct_names::Id;
 use ct_words::Entry;
 use std::alloc::{AllocError, Global};
 use std::test::Fail;

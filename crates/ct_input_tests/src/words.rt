@@ -1,6 +1,7 @@
 //! Words of lines, numbers read and numbers printed, and ids, as they are written down here.
 
-use ct_text::{Id, first_words, parse_number, put_number};
+use ct_names::Id;
+use ct_text::{first_words, parse_number, put_number};
 use std::alloc::{AllocError, Global};
 use std::test::Fail;
 

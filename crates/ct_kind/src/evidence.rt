@@ -3,7 +3,7 @@
 use crate::word_lists::WordLists;
 use ct_build::Step;
 use ct_duals::Dual;
-use ct_text::Id;
+use ct_names::Id;
 use ct_words::{Entry, Listed, Word};
 
 /// A piece of evidence for a bound.

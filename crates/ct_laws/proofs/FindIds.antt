@@ -15,8 +15,8 @@ use Rattle.ct_words.specs.declared.limits.TheConstants.{MAX_N}
 use Rattle.ct_words.specs.declared.entry.Entry.{Entry}
 use Rattle.ct_words.specs.Entry.{IsEntry}
 use Rattle.ct_words.proofs.EntryLemmas.{WeightFits, entry_limits}
-use Rattle.ct_text.specs.Id.{is_id, is_id_byte}
-use Rattle.ct_text.specs.declared.id.TheConstants.{MAX_ID}
+use Rattle.ct_names.specs.Id.{is_id, is_id_byte}
+use Rattle.ct_names.specs.declared.id.TheConstants.{MAX_ID}
 use Rattle.ct_find.specs.Proposal.{find_id, weight_part}
 
 -- the bytes are those of digits

@@ -9,7 +9,7 @@ use Rattle.ct_words.specs.declared.claim.Side.{Side}
 use Rattle.ct_text.specs.declared.document_lines.TheConstants.{LINE_FEED}
 use Rattle.ct_io.specs.Lines.{lines_of}
 use Rattle.ct_io.proofs.LinesLemmas.{lines_of-next}
-use Rattle.ct_text.specs.Id.{is_id}
+use Rattle.ct_names.specs.Id.{is_id}
 use Rattle.ct_fields.specs.declared.document.TheConstants.{MAX_DOCUMENT}
 use Rattle.ct_rule_parts.specs.Slot.{claim_at}
 use Rattle.ct_rules.specs.Derivation.{LineValue}

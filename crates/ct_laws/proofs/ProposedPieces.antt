@@ -15,7 +15,7 @@ use Rattle.ct_io.specs.Lines.{lines_of, IsLine}
 use Rattle.ct_io.proofs.LinesLemmas.{lines_of-next}
 use Rattle.ct_words.specs.declared.entry.Entry.{Entry}
 use Rattle.ct_words.specs.Entry.{IsEntry}
-use Rattle.ct_text.specs.Id.{is_id}
+use Rattle.ct_names.specs.Id.{is_id}
 use Rattle.ct_duals.specs.declared.dual.Dual.{Dual}
 use Rattle.ct_fields.specs.declared.document.TheConstants.{MAX_DOCUMENT}
 use Rattle.ct_duals.specs.Bound.{natural}

@@ -11,7 +11,7 @@ use Rattle.ct_words.specs.declared.entry.Entry.{Entry}
 use Rattle.ct_words.specs.Claim.{IsTrueClaim}
 use Rattle.ct_words.specs.Entry.{is_entry, unrestricted}
 use Rattle.ct_words.proofs.EntryLemmas.{entry_limits}
-use Rattle.ct_text.specs.Id.{is_id}
+use Rattle.ct_names.specs.Id.{is_id}
 use Rattle.ct_rule_parts.specs.declared.support.Support.{Support}
 use Rattle.ct_rule_parts.specs.Parts.{are_entries}
 use Rattle.ct_plain_rules.specs.Juxtaposition.{juxtaposition}

@@ -5,7 +5,7 @@ ghost use Rattle.std.specs.List.{join_with_byte};
 ghost use Rattle.ct_text.specs.declared.document_lines.TheConstants.{LINE_FEED};
 ghost use Rattle.ct_words.specs.declared.claim.Side.TheVariants.{Lower, Upper};
 ghost use Rattle.ct_io.specs.Lines.{lines_of};
-ghost use Rattle.ct_text.specs.Id.{is_id};
+ghost use Rattle.ct_names.specs.Id.{is_id};
 ghost use Rattle.ct_text.specs.Gathering.{is_end};
 ghost use Rattle.ct_text.specs.DocumentLines.{line_count};
 ghost use Rattle.ct_text.specs.declared.gathering.Extent.{Extent};

@@ -14,10 +14,11 @@ ghost use Rattle.ct_pieces.specs.Submission.{AddsPiece};
 ghost use Rattle.ct_pieces.specs.Dump.{dump_text};
 
 use ct_files::Evidence;
+use ct_names::Id;
 use ct_pieces::{Piece, Pieces, SubmitFault, WithdrawFault};
 use ct_rule_parts::Support;
 use ct_table::Table;
-use ct_text::{Id, Text};
+use ct_text::Text;
 use ct_words::Code;
 use std::alloc::{AllocError, Global};
 use std::marker::Model;

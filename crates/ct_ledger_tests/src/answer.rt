@@ -1,7 +1,7 @@
 //! The answers of calls.
 
 use ct_ledger::{SubmitFault, WithdrawFault, submit_refusal, withdraw_refusal};
-use ct_text::Id;
+use ct_names::Id;
 use std::alloc::{AllocError, Global};
 use std::io;
 

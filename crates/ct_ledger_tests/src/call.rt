@@ -4,7 +4,8 @@ use crate::answer::Answer;
 use crate::documents::Stated;
 use ct_files::{read_evidence, write_evidence};
 use ct_ledger::Ledger;
-use ct_text::{Id, Text};
+use ct_names::Id;
+use ct_text::Text;
 use std::alloc::{AllocError, Global};
 
 /// A call on a ledger.

@@ -16,7 +16,7 @@ use Rattle.ct_fields.proofs.StepLemmas.{ok_or-ok}
 use Rattle.ct_fields.specs.Forms.{pair_in, all_of, pair_data}
 use Rattle.ct_fields.proofs.ReadLists.{all_of-length}
 use Rattle.ct_fields.proofs.FormLemmas.{ReadsBack, pair-reads, all-some, all-from, id-reads}
-use Rattle.ct_text.specs.Id.{is_id}
+use Rattle.ct_names.specs.Id.{is_id}
 use Rattle.ct_partition_files.specs.Pairs.{is_pair_count, pairs_in, pairs_field}
 use Rattle.ct_partition_files.specs.ProductDocument.{IsPairCount, HasPairs}
 use Rattle.ct_partition_files.specs.Written.{AreIds, pair_list}

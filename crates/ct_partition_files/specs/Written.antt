@@ -2,7 +2,7 @@
 use Rattle.std.specs.Prelude.{ℕ, pos, List, map, IsTrue, codes}
 use Rattle.toml.specs.Data.{Data, string, integer, array, Members}
 use Rattle.toml.specs.View.{items_of}
-use Rattle.ct_text.specs.Id.{is_id}
+use Rattle.ct_names.specs.Id.{is_id}
 use Rattle.ct_words.specs.declared.entry.Entry.{Entry}
 use Rattle.ct_fields.specs.Forms.{pair_data, list_data}
 use Rattle.ct_fields.specs.Written.{word_texts, put, put_weight, entry_table}

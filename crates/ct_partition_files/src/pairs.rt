@@ -6,7 +6,7 @@ ghost use Rattle.ct_fields.specs.Reads.{Reads};
 ghost use Rattle.ct_partition_files.specs.Pairs.{is_pair_count, pairs_in, pairs_field};
 
 use ct_fields::{DocumentFault, FieldName, all_of};
-use ct_text::Id;
+use ct_names::Id;
 use ct_words::MAX_N;
 use std::alloc::{AllocError, Global};
 use toml::Value;

@@ -18,8 +18,8 @@ ghost use Rattle.ct_partition_files.specs.ProductKind.{ids_of, factors_named, fi
 
 use ct_build::BuildFault;
 use ct_kind::{Kind, Partitions, SubmitFault};
+use ct_names::Id;
 use ct_partitions::{Partition, product_distance, product_list, product_size};
-use ct_text::Id;
 use ct_words::{Code, Entry};
 use std::alloc::{AllocError, Global};
 

@@ -9,7 +9,7 @@ ghost use Rattle.ct_fields.specs.Written.{put, put_weight};
 ghost use Rattle.ct_partition_files.specs.Written.{AreIds, class_list, pair_list, partition_table, product_table};
 
 use ct_fields::{FieldName, entry_table, id_value, put, put_weight, two_values, word_values};
-use ct_text::Id;
+use ct_names::Id;
 use ct_words::{Entry, Word};
 use std::alloc::{AllocError, Global};
 use toml::{Table, Value};

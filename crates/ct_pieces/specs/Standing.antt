@@ -1,7 +1,7 @@
 -- What holds of the pieces that stand.
 use Rattle.std.specs.Prelude.{◌≡◌, ◌≢◌, ◌≤◌, List, [], ◌∷◌, ◌++◌, length, All, AllPairs, Ok, IfSome, IsTrue}
 use Rattle.ct_words.specs.Code.{IsTrueLower}
-use Rattle.ct_text.specs.Id.{is_id}
+use Rattle.ct_names.specs.Id.{is_id}
 use Rattle.ct_files.specs.Document.{document_without_limit}
 use Rattle.ct_kind.specs.Named.{NamedCode}
 use Rattle.ct_pieces.specs.Kind.{has_code}

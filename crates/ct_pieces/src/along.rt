@@ -15,7 +15,7 @@ ghost use Rattle.ct_pieces.specs.declared.limits.TheConstants.{MAX_STORED};
 use crate::piece::Piece;
 use crate::pieces::stored_by;
 use ct_files::Evidence;
-use ct_text::Id;
+use ct_names::Id;
 use std::alloc::{AllocError, Global};
 use std::collections::HashSet;
 

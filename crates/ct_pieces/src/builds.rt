@@ -17,7 +17,7 @@ use crate::piece::Piece;
 use ct_build_files::build_kind::{self, StatedBuild};
 use ct_files::Evidence;
 use ct_kind::{Found, SubmitFault};
-use ct_text::Id;
+use ct_names::Id;
 use ct_words::Code;
 use std::alloc::{AllocError, Global};
 

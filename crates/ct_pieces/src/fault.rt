@@ -2,7 +2,7 @@
 
 ghost use Rattle.std.specs.Prelude.{◌≡◌};
 
-use ct_text::Id;
+use ct_names::Id;
 use std::alloc::AllocError;
 
 /// Why a piece is not withdrawn.

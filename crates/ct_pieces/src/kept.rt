@@ -9,7 +9,7 @@ ghost use Rattle.ct_pieces.specs.Piece.{place_of};
 use crate::kinds::listed_code;
 use crate::piece::Piece;
 use ct_kind::Found;
-use ct_text::Id;
+use ct_names::Id;
 use ct_words::Code;
 use std::alloc::{AllocError, Global};
 

@@ -2,7 +2,7 @@
 
 ghost use Rattle.std.specs.Prelude.{◌≡◌, ◌≤◌, ◌++◌, All, IsTrue, OnOk, IfOk, length};
 ghost use Rattle.ct_fields.specs.declared.cites.TheConstants.{MAX_CITES};
-ghost use Rattle.ct_text.specs.Cite.{is_cite};
+ghost use Rattle.ct_names.specs.Cite.{is_cite};
 ghost use Rattle.ct_files.specs.Evidence.{IsSound};
 ghost use Rattle.ct_pieces.specs.Kind.{names};
 ghost use Rattle.ct_pieces.specs.Text.{piece_text};
@@ -10,7 +10,8 @@ ghost use Rattle.ct_pieces.specs.Text.{piece_text};
 use crate::kinds::names;
 use crate::text::put_piece;
 use ct_files::{Document, Evidence};
-use ct_text::{Cite, Id, Text};
+use ct_names::{Cite, Id};
+use ct_text::Text;
 use ct_words::Entry;
 use std::alloc::{AllocError, Global};
 use std::marker::Model;
@@ -41,7 +42,7 @@ impl Drop for Piece {
 impl Model for Piece {
     ghost use Rattle.std.specs.Prelude.{◌≤◌, All, IsTrue, length};
     ghost use Rattle.ct_fields.specs.declared.cites.TheConstants.{MAX_CITES};
-    ghost use Rattle.ct_text.specs.Cite.{is_cite};
+    ghost use Rattle.ct_names.specs.Cite.{is_cite};
     ghost use Rattle.ct_files.specs.Evidence.{IsSound};
     ghost use Rattle.ct_pieces.specs.Piece.{PieceValue};
 

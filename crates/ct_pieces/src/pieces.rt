@@ -2,7 +2,7 @@
 
 ghost use Rattle.std.specs.Prelude.{◌≡◌, ◌≢◌, ◌<◌, ◌+◌, ◌^◌, ◌∷◌, ◌++◌, List, Result, Ok, Err, Some, None, false, IfOk, IfErr, IfSome, IsSome, IsTrue, OnOk, OnErr, [], All, find, is_some, length, option_map, remove, true};
 ghost use Rattle.ct_words.specs.Code.{IsSoundCode};
-ghost use Rattle.ct_text.specs.Id.{is_id};
+ghost use Rattle.ct_names.specs.Id.{is_id};
 ghost use Rattle.ct_files.specs.Document.{document_read_of, value_of, without_cites};
 ghost use Rattle.ct_pieces.specs.Piece.{PieceValue, has_id, stored_by, stored_words, first_user};
 ghost use Rattle.ct_pieces.specs.Codes.{code_of_place};
@@ -28,7 +28,8 @@ use crate::piece::Piece;
 use crate::standing::has_code;
 use ct_files::{Document, Evidence};
 use ct_kind::SubmitFault;
-use ct_text::{Id, Text};
+use ct_names::Id;
+use ct_text::Text;
 use ct_words::Code;
 use std::alloc::{AllocError, Global};
 use std::marker::Model;

@@ -14,7 +14,7 @@ use crate::piece::Piece;
 use ct_build::Shape;
 use ct_build_files::Codes;
 use ct_kind::{Partitions, StatedPartition};
-use ct_text::Id;
+use ct_names::Id;
 use std::marker::Model;
 
 /// Whether a piece has the id.

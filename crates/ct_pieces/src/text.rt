@@ -11,8 +11,9 @@ use ct_build_files::put_build_fault;
 use ct_dual_files::put_dual_fault;
 use ct_files::DocumentFault;
 use ct_kind::{SubmitFault, put_numbered};
+use ct_names::{Cite, Id};
 use ct_partition_files::put_partition_fault;
-use ct_text::{Cite, Id, put_entry_words, put_spaced};
+use ct_text::{put_entry_words, put_spaced};
 use ct_word_files::put_code_fault;
 use std::alloc::{AllocError, Global};
 

@@ -1,7 +1,8 @@
 //! Replies to commands.
 
+use ct_names::Id;
 use ct_pieces::{SubmitFault, WithdrawFault};
-use ct_text::{Id, Text};
+use ct_text::Text;
 use ct_words::{Code, Entry, Listed};
 
 /// Why a command is refused.

@@ -2,7 +2,7 @@
 
 use crate::tally::Tally;
 use ct_ledger::Ledger;
-use ct_text::Id;
+use ct_names::Id;
 use std::alloc::{AllocError, Global};
 use std::io;
 

@@ -7,9 +7,9 @@ use Rattle.std.specs.Fmt.{decimal}
 use Rattle.std.proofs.lemmas.Bool.{and_parts, and_from}
 use Rattle.std.proofs.lemmas.Str.Parse.{IsNumeralModel, numerals_by_fold}
 use Rattle.std.proofs.lemmas.Fmt.{digits_decimal, length-decimal-le}
-use Rattle.ct_text.specs.Id.{is_id, is_id_byte}
+use Rattle.ct_names.specs.Id.{is_id, is_id_byte}
 use Rattle.ct_text.specs.Number.{decimal_value}
-use Rattle.ct_text.specs.declared.id.TheConstants.{MAX_ID}
+use Rattle.ct_names.specs.declared.id.TheConstants.{MAX_ID}
 use Rattle.ct_text.proofs.Numbers.{step}
 use Rattle.ct_sample.specs.Command.{step_id}
 

@@ -6,7 +6,8 @@ ghost use Rattle.ct_sample.specs.Command.{step_id, is_used, first_unused, comman
 use crate::drawing::drawn_evidence;
 use ct_kind::Evidence;
 use ct_ledger::Piece;
-use ct_text::{Id, put_number};
+use ct_names::Id;
+use ct_text::put_number;
 use std::alloc::{AllocError, Global};
 
 /// A command of the sample.

@@ -8,8 +8,8 @@ use ct_build::Step;
 use ct_duals::{Allowances, Dual, Multipliers};
 use ct_kind::Evidence;
 use ct_ledger::Piece;
+use ct_names::Id;
 use ct_sum_classes::sum_class_list;
-use ct_text::Id;
 use ct_words::{Entry, Listed, Word};
 use std::alloc::{AllocError, Global};
 

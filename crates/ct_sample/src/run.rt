@@ -14,8 +14,9 @@ use crate::random::next;
 use ct_files::write_evidence;
 use ct_kind::Evidence;
 use ct_ledger::{Ledger, MAX_PIECES, Piece, SubmitFault, WithdrawFault};
+use ct_names::Id;
 use ct_table::Table;
-use ct_text::{Id, Text};
+use ct_text::Text;
 use std::alloc::{AllocError, Global};
 use std::marker::Model;
 

@@ -1,9 +1,9 @@
 //! A bound that is shown.
 
 use ct_derive::{Parts, PieceParts, ShownPiece, print};
+use ct_names::Id;
 use ct_reasons::explain;
 use ct_table::Table;
-use ct_text::Id;
 use ct_words::{Entry, Side};
 use smallvec::SmallVec;
 use std::alloc::{AllocError, Global};

@@ -2,11 +2,8 @@ pub mod Growing
 pub mod Line
 pub mod DocumentLines
 pub mod Number
-pub mod Id
-pub mod Cite
 pub mod EntryNumbers
 pub mod TableNumbers
 pub mod EntryText
 pub mod Gathering
-pub mod Inside
 pub mod Side

@@ -1,14 +1,12 @@
-//! Text that commands, documents and replies share: the words of a line; numbers, ids and entries, read and written; and the
+//! Text that commands, documents and replies share: the words of a line; numbers and entries, read and written; and the
 //! text of a document as its lines come in.
 #![tactic(auto)]
 
 mod append;
-mod cite;
 mod digits;
 mod document_lines;
 mod entry_numbers;
 mod gathering;
-mod id;
 mod line;
 mod number;
 mod side;
@@ -16,12 +14,10 @@ mod table_numbers;
 mod text;
 
 pub use append::{put_entry, put_entry_words, put_number, put_spaced};
-pub use cite::{Cite, MAX_CITE, is_cite};
 pub use digits::Digits;
 pub use document_lines::{LINE_FEED, line_count};
 pub use entry_numbers::{EntryNumbers, parse_entry_numbers};
 pub use gathering::{Extent, Gathered, Gathering};
-pub use id::{Id, MAX_ID};
 pub use line::first_words;
 pub use number::parse_number;
 pub use side::parse_side;

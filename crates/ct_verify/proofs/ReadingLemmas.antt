@@ -5,7 +5,7 @@ use Rattle.std.specs.Str.{bytes_eq}
 use Rattle.std.proofs.lemmas.Bool.Decides.{nat_tests}
 use Rattle.std.proofs.lemmas.List.{nil_from_length}
 use Rattle.ct_words.specs.declared.claim.Claim.{Claim}
-use Rattle.ct_text.specs.Id.{is_id}
+use Rattle.ct_names.specs.Id.{is_id}
 use Rattle.ct_text.specs.Line.{words_of}
 use Rattle.ct_text.specs.Number.{number_of}
 use Rattle.ct_text.specs.Gathering.{gathered}

@@ -1,7 +1,7 @@
 -- The first line of a block of evidence.
 use Rattle.std.specs.Prelude.{ℕ, suc, if◌then◌else◌, List, [], ◌∷◌, Option, Some, None, codes}
 use Rattle.std.specs.Str.{bytes_eq}
-use Rattle.ct_text.specs.Id.{is_id}
+use Rattle.ct_names.specs.Id.{is_id}
 use Rattle.ct_text.specs.Number.{number_of}
 use Rattle.ct_text.specs.declared.gathering.Extent.{Extent}
 use Rattle.ct_text.specs.declared.gathering.Extent.TheVariants.{ToEnd, Lines}

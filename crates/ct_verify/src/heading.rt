@@ -3,7 +3,8 @@
 ghost use Rattle.std.specs.Prelude.{◌≡◌, map};
 ghost use Rattle.ct_verify.specs.Heading.{lines_extent, heading_with, heading_of};
 
-use ct_text::{Extent, Id, parse_number};
+use ct_names::Id;
+use ct_text::{Extent, parse_number};
 
 /// The first line of a block of evidence.
 #[derive(Clone, Copy)]

@@ -1,6 +1,7 @@
 //! Where in a derivation document a reading is.
 
-use ct_text::{Gathering, Id};
+use ct_names::Id;
+use ct_text::Gathering;
 
 /// A block of evidence that is not whole.
 #[derive(Drop)]

@@ -2,13 +2,14 @@
 
 ghost use Rattle.std.specs.Prelude.{◌≡◌, ◌-◌, ◌^◌, nat_lt, if◌then◌else◌, ◌∷◌, [], List, ℕ, Option, Some, None, IfSome, map, option_map};
 ghost use Rattle.ct_text.specs.Number.{number_of};
-ghost use Rattle.ct_text.specs.Id.{is_id};
+ghost use Rattle.ct_names.specs.Id.{is_id};
 ghost use Rattle.ct_pieces.specs.Piece.{place_of};
 ghost use Rattle.ct_verify.specs.StatedRule.{argument_of, first_argument, second_argument, first_id, numbered, citing, with_words, stated_rule, resolved};
 
+use ct_names::Id;
 use ct_pieces::Pieces;
 use ct_rules::{Arguments, Rule, arguments_of, rule_named, with_arguments, with_place};
-use ct_text::{Id, parse_number};
+use ct_text::parse_number;
 use ct_words::Side;
 
 /// A rule with its arguments, as the words of a line state it.

@@ -19,9 +19,10 @@ use crate::reading::Reading;
 use crate::stated_line::{StatedLine, parse_line};
 use crate::verdict::{Verdict, Why};
 use ct_derive::{ClassSizes, LineFault, add_line};
+use ct_names::Id;
 use ct_pieces::{Pieces, SubmitFault};
 use ct_rules::Rule;
-use ct_text::{Gathered, Gathering, Id, Text, first_words};
+use ct_text::{Gathered, Gathering, Text, first_words};
 use std::alloc::{AllocError, Global};
 use std::mem;
 

@@ -1,7 +1,7 @@
 -- The table that is written for an evidence: its keys ascend.
 use Rattle.std.specs.Prelude.{All, IfSome, IsTrue, ⊤}
 use Rattle.toml.specs.Data.{Members}
-use Rattle.ct_text.specs.Id.{is_id}
+use Rattle.ct_names.specs.Id.{is_id}
 use Rattle.ct_kind.specs.declared.evidence.Evidence.{Evidence}
 use Rattle.ct_kind.specs.declared.evidence.Evidence.TheVariants as evidence
 use Rattle.ct_word_files.specs.WrittenWords.{words_table, cosets_table}

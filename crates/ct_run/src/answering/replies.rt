@@ -12,8 +12,9 @@ ghost use Rattle.ct_session.specs.Reply.{IsReply, AreBoundsOf, IsShowReply, IsTa
 
 use crate::answering::explaining;
 use ct_ledger::{Ledger, SubmitFault, WithdrawFault};
+use ct_names::Id;
 use ct_replies::{Bounds, Refusal, Reply};
-use ct_text::{EntryNumbers, Id, TableNumbers, Text};
+use ct_text::{EntryNumbers, TableNumbers, Text};
 use ct_words::{Entry, Listed, MAX_N, Side};
 use std::alloc::{AllocError, Global};
 

@@ -4,7 +4,7 @@ use Rattle.std.proofs.lemmas.List.Elements.{All-nil, All-more}
 use Rattle.toml.specs.Data.{Data, string, array}
 use Rattle.toml.specs.View.{view, items_of}
 use Rattle.toml.proofs.Views.{view-Array}
-use Rattle.ct_text.specs.Cite.{is_cite}
+use Rattle.ct_names.specs.Cite.{is_cite}
 use Rattle.ct_fields.proofs.PushedValues.{none_pushed, pushed, all_pushed}
 use Rattle.ct_fields.proofs.Reserved.{room_left, room_stays}
 use Rattle.ct_fields.proofs.cites.cite_values.Goals as goal

@@ -2,7 +2,7 @@ use Rattle.std.proofs.Common.{◌≡◌, ◌++◌, length, map, drop, take, IsTr
 use Rattle.std.specs.Prelude.{All}
 use Rattle.toml.specs.Data.{string}
 use Rattle.toml.specs.View.{view}
-use Rattle.ct_text.specs.Cite.{is_cite}
+use Rattle.ct_names.specs.Cite.{is_cite}
 use Rattle.ct_fields.proofs.Reserved.{HasRoom}
 use Rattle.ct_fields.proofs.cites.cite_values.Given as goal
 

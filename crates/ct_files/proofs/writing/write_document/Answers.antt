@@ -3,7 +3,7 @@ use Rattle.std.specs.Prelude.{All}
 use Rattle.std.proofs.lemmas.Result.{IfOk-weaker}
 use Rattle.toml.specs.Data.{Members, table}
 use Rattle.toml.specs.Text.{IsDocumentText}
-use Rattle.ct_text.specs.Cite.{is_cite}
+use Rattle.ct_names.specs.Cite.{is_cite}
 use Rattle.ct_fields.specs.Cites.{IsCites}
 use Rattle.ct_fields.specs.Written.{put_cites}
 use Rattle.ct_fields.proofs.CitedTables.{depth-cited}

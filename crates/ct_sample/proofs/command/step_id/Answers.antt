@@ -1,6 +1,6 @@
 use Rattle.std.proofs.Common.{arith, ◌≡◌, ℕ, List, sym, subst, ◌∙◌}
 use Rattle.std.specs.Prelude.{IsTrue}
-use Rattle.ct_text.specs.Id.{is_id}
+use Rattle.ct_names.specs.Id.{is_id}
 use Rattle.ct_sample.specs.Command.{step_id}
 use Rattle.ct_sample.proofs.StepIds.{step_id-is}
 use Rattle.ct_sample.proofs.command.step_id.Goals as goal

@@ -2,7 +2,7 @@
 use Rattle.std.specs.Prelude.{ℕ, Bool, false, nat_le, ◌==◌, ◌&&◌, ◌||◌, List, [], ◌∷◌, length}
 use Rattle.std.specs.List.{list_all}
 use Rattle.std.specs.Char.{is_ascii_lowercase, is_ascii_digit}
-use Rattle.ct_text.specs.declared.id.TheConstants.{MAX_ID}
+use Rattle.ct_names.specs.declared.id.TheConstants.{MAX_ID}
 
 -- what may stand in an id: a lower-case letter, a digit, `-` (45) or `_` (95)
 abbrev pub is_id_byte : ℕ → Bool

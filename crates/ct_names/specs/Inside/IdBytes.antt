@@ -2,9 +2,9 @@
 use Rattle.std.specs.Prelude.{◌≡◌, ℕ, ◌-◌, ◌≤◌, List, ◌++◌, length, take, drop, replicate, IsTrue}
 use Rattle.std.proofs.Common.{sym, ap, ◌∙◌, arith, length-take}
 use Rattle.std.proofs.lemmas.List.{take-append-drop}
-use Rattle.ct_text.specs.declared.id.Id.TheInside.{Inside}
-use Rattle.ct_text.specs.declared.id.TheConstants.{MAX_ID}
-use Rattle.ct_text.specs.Id.{is_id}
+use Rattle.ct_names.specs.declared.id.Id.TheInside.{Inside}
+use Rattle.ct_names.specs.declared.id.TheConstants.{MAX_ID}
+use Rattle.ct_names.specs.Id.{is_id}
 
 -- the text of an id
 abbrev pub text_of : Inside → List ℕ

@@ -1,7 +1,7 @@
 -- The texts by which documents say where their evidence comes from.
 use Rattle.std.specs.Prelude.{ℕ, Bool, nat_le, ◌&&◌, if◌then◌else◌, List, length, Option, Some, None}
 use Rattle.std.specs.List.{list_all}
-use Rattle.ct_text.specs.declared.cite.TheConstants.{MAX_CITE}
+use Rattle.ct_names.specs.declared.cite.TheConstants.{MAX_CITE}
 
 -- what may stand in a cite: a space or another printable character of ASCII
 abbrev pub is_cite_byte : ℕ → Bool

@@ -2,7 +2,7 @@
 ghost use Rattle.std.specs.Prelude.{◌≡◌, ◌↔◌, IsTrue, IsSome, IfSome};
 ghost use Rattle.std.specs.List.{list_all};
 ghost use Rattle.std.specs.Str.{bytes_eq};
-ghost use Rattle.ct_text.specs.Id.{is_id, is_id_byte};
+ghost use Rattle.ct_names.specs.Id.{is_id, is_id_byte};
 
 use std::marker::Model;
 
@@ -23,7 +23,7 @@ impl Model for Id {
 
     ghost Value = { List ℕ };
 
-    ghost use Rattle.ct_text.specs.Inside.IdBytes.{text_of, kept_of, kept_again, IsKept};
+    ghost use Rattle.ct_names.specs.Inside.IdBytes.{text_of, kept_of, kept_again, IsKept};
 
     ghost view = { text_of };
 

@@ -5,9 +5,9 @@ use Rattle.std.specs.List.{list_all}
 use Rattle.std.specs.Char.{is_ascii_lowercase}
 use Rattle.std.proofs.lemmas.Bool.{and_parts, leb-true}
 use Rattle.std.proofs.lemmas.List.{take_at, drop_at, drop-replicate, length-append}
-use Rattle.ct_text.specs.declared.id.TheConstants.{MAX_ID}
-use Rattle.ct_text.specs.Id.{is_id, is_id_byte}
-use Rattle.ct_text.specs.Inside.IdBytes.{IsKept}
+use Rattle.ct_names.specs.declared.id.TheConstants.{MAX_ID}
+use Rattle.ct_names.specs.Id.{is_id, is_id_byte}
+use Rattle.ct_names.specs.Inside.IdBytes.{IsKept}
 
 -- an id is at most 32 bytes long
 pub is_id-short : (text : List ℕ) → IsTrue (is_id text) → length text ≤ MAX_ID

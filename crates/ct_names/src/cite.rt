@@ -1,7 +1,7 @@
 //! Where evidence comes from, as documents say it.
 ghost use Rattle.std.specs.Prelude.{◌≡◌, ◌&&◌, nat_le, IfOk, IsTrue};
 ghost use Rattle.std.specs.List.{list_all};
-ghost use Rattle.ct_text.specs.Cite.{is_cite_byte, is_cite, cite_of};
+ghost use Rattle.ct_names.specs.Cite.{is_cite_byte, is_cite, cite_of};
 
 use std::alloc::{AllocError, Global};
 use std::marker::Model;
@@ -23,7 +23,7 @@ impl Drop for Cite {
 
 impl Model for Cite {
     ghost use Rattle.std.specs.Prelude.{List, ℕ, IsTrue};
-    ghost use Rattle.ct_text.specs.Cite.{is_cite};
+    ghost use Rattle.ct_names.specs.Cite.{is_cite};
 
     ghost Value = { List ℕ };
 

@@ -1,0 +1,2 @@
+-- Words that the type itself alone cites.
+pub mod IdBytes

@@ -1,2 +1,0 @@
--- Words that the contracts of inner functions, and the types themselves, alone cite.
-pub mod IdBytes
