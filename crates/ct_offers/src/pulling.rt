@@ -437,7 +437,8 @@ fn ask_below(
     }
 }
 
-/// The best bound that any rule gives on a side of an entry of the table over what stands.
+/// The best bound that any rule gives on a side of an entry of the table over what stands, and the rule, none where it is what stands;
+/// `evaluations` grows by one for each bound of a rule that is worked out.
 pub fn best_offer(
     supports: &[Support],
     places: &SupportPlaces,
