@@ -8,7 +8,7 @@ use Rattle.std.proofs.lemmas.List.{take_more, length-take-le}
 use Rattle.std.proofs.lemmas.Option.{slice_get-map}
 use Rattle.ct_derive.specs.Pieces.{AreEarlier}
 use Rattle.ct_kind.specs.declared.evidence.Evidence.{Evidence}
-use Rattle.ct_pieces.specs.Kind.{parts_of, names}
+use Rattle.ct_files.specs.ByKind.{parts_of, names}
 use Rattle.ct_pieces.specs.Piece.{PieceValue}
 use Rattle.ct_pieces.specs.Standing.{AreStanding}
 use Rattle.ct_pieces.proofs.EarlierParts.{part_earlier}

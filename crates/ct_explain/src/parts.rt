@@ -1,7 +1,7 @@
 //! The parts of pieces, as places.
 
 ghost use Rattle.std.specs.Prelude.{◌≡◌, ◌↔◌, [], false, IfOk};
-ghost use Rattle.ct_pieces.specs.Kind.{parts_of};
+ghost use Rattle.ct_files.specs.ByKind.{parts_of};
 ghost use Rattle.ct_explain.specs.Parts.{part_places, parts_of_each};
 
 use ct_derive::{Parts, PieceParts};

@@ -9,7 +9,7 @@ use Rattle.ct_words.specs.declared.fault.TheConstants.{MAX_REPRESENTATIVES}
 use Rattle.ct_words.specs.declared.entry.Entry.{Entry}
 use Rattle.ct_words.specs.Entry.{IsEntry}
 use Rattle.ct_words.proofs.EntryLemmas.{entry_limits}
-use Rattle.ct_partitions.specs.Partition.{words_of_classes}
+use Rattle.ct_classes.specs.Partition.{words_of_classes}
 use Rattle.ct_duals.specs.declared.dual.Dual.{Dual}
 use Rattle.ct_duals.specs.Dual.{IsDual, degree_of, greatest_index, as_index, is_in_range}
 use Rattle.toml.specs.Data.{Members, table}

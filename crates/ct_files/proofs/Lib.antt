@@ -5,3 +5,7 @@ pub mod Documents
 mod Written
 pub mod Lengths
 pub mod WrittenDocuments
+pub mod SameByKind
+pub mod StatedByKind
+pub mod OwnReasons
+pub mod Checking

@@ -4,7 +4,7 @@ use Rattle.toml.specs.Data.{Data}
 use Rattle.ct_words.specs.declared.limits.TheConstants.{MAX_N}
 use Rattle.ct_words.specs.Entry.{IsEntry}
 use Rattle.ct_words.specs.declared.fault.TheConstants.{MAX_WORDS, MAX_REPRESENTATIVES}
-use Rattle.ct_partitions.specs.Partition.{words_of_classes}
+use Rattle.ct_classes.specs.Partition.{words_of_classes}
 use Rattle.ct_partitions.specs.Check.{wrong_count}
 use Rattle.ct_build.specs.Build.{FitsStated}
 use Rattle.ct_fields.specs.Steps.{◌>>=◌, ◌>>◌, check}

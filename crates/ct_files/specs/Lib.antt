@@ -1,7 +1,10 @@
 pub mod Kinds
 pub mod Evidence
+pub mod ByKind
+pub mod Checked
 pub mod Document
 pub mod DualAnswer
 pub mod Answers
 pub mod Lengths
+pub mod Refusal
 pub mod Inside

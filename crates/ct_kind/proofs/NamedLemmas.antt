@@ -5,7 +5,7 @@ use Rattle.std.specs.Str.{bytes_eq}
 use Rattle.std.proofs.lemmas.List.Elements.{All-head, All-tail}
 use Rattle.std.proofs.lemmas.Slice.Eq.{bytes_eq-Decides}
 use Rattle.ct_words.specs.Code.{IsSoundCode}
-use Rattle.ct_partitions.specs.Partition.{IsSoundPartition}
+use Rattle.ct_classes.specs.Partition.{IsSoundPartition}
 use Rattle.ct_kind.specs.Named.{NamedCode, code_named, partition_named}
 use Rattle.ct_kind.specs.Sound.{HasSoundCode, AreSound}
 

@@ -3,7 +3,7 @@ use Rattle.std.proofs.Common.{◌≡◌, ℕ, ◌≤◌, List, length, Option, S
 use Rattle.std.specs.Prelude.{IfSome, IsTrue}
 use Rattle.ct_words.specs.Entry.{IsEntry}
 use Rattle.ct_words.specs.Code.{IsCodeOf}
-use Rattle.ct_partitions.specs.Partition.{IsSoundPartition}
+use Rattle.ct_classes.specs.Partition.{IsSoundPartition}
 use Rattle.ct_rule_parts.specs.Support.{Stands}
 use Rattle.ct_kind.specs.Named.{NamedCode, is_known, code_named, partition_named}
 use Rattle.ct_kind.specs.KindParts.{KindParts}

@@ -3,7 +3,7 @@ use Rattle.std.specs.Prelude.{ℕ, ◌+◌, Bool, if◌then◌else◌, List, Opt
 use Rattle.std.specs.Option.{unwrap_or}
 use Rattle.ct_words.specs.declared.entry.Entry.{Entry}
 use Rattle.ct_words.specs.Pairs.{first_of}
-use Rattle.ct_partitions.specs.Partition.{PartitionValue}
+use Rattle.ct_classes.specs.Partition.{PartitionValue}
 use Rattle.ct_rule_parts.specs.declared.support.Support.{Support}
 use Rattle.ct_rule_parts.specs.declared.support.Support.TheVariants.{Nothing, Size}
 use Rattle.ct_kind.specs.Named.{NamedCode, first_missing}

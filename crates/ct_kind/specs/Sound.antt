@@ -1,7 +1,7 @@
 -- What holds of pieces that may be named: their codes are codes, and their partitions are partitions.
 use Rattle.std.specs.Prelude.{List, All, IfSome}
 use Rattle.ct_words.specs.Code.{IsSoundCode}
-use Rattle.ct_partitions.specs.Partition.{IsSoundPartition}
+use Rattle.ct_classes.specs.Partition.{IsSoundPartition}
 use Rattle.ct_kind.specs.Named.{NamedCode}
 
 -- the code is one, where there is one, and so is the partition

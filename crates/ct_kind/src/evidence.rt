@@ -1,7 +1,7 @@
 //! The kinds of evidence.
 
-use crate::word_lists::WordLists;
 use ct_build::Step;
+use ct_classes::WordLists;
 use ct_duals::Dual;
 use ct_names::Id;
 use ct_words::{Entry, Listed, Word};

@@ -3,10 +3,10 @@
 ghost use Rattle.std.specs.Prelude.{◌≡◌};
 
 use ct_build::BuildFault;
+use ct_classes::PartitionFault;
 use ct_duals::DualFault;
 use ct_fields::DocumentFault;
 use ct_names::Id;
-use ct_partitions::PartitionFault;
 use ct_words::CodeFault;
 use std::alloc::{AllocError, AllocFailed};
 

@@ -5,14 +5,11 @@ mod evidence;
 mod fault;
 mod kind;
 mod parts;
-mod stated;
 mod text;
-mod word_lists;
 
+pub use ct_classes::{StatedPartition, WordLists};
 pub use evidence::Evidence;
 pub use fault::SubmitFault;
 pub use kind::{Kind, support_from};
 pub use parts::{Found, Partitions};
-pub use stated::StatedPartition;
-pub use text::{put_numbered, put_numbered_pair};
-pub use word_lists::WordLists;
+pub use text::{put_named, put_numbered, put_numbered_pair};

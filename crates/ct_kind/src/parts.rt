@@ -5,7 +5,7 @@ ghost use Rattle.std.specs.Option.{option_copied};
 ghost use Rattle.ct_kind.specs.Named.{NamedCode, is_known, partition_named};
 ghost use Rattle.ct_kind.specs.Sound.{AreSound};
 
-use crate::stated::StatedPartition;
+use ct_classes::StatedPartition;
 use ct_names::Id;
 use ct_words::Code;
 use std::marker::Model;

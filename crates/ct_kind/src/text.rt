@@ -3,6 +3,7 @@
 ghost use Rattle.std.specs.Prelude.{◌≡◌, ◌++◌, OnOk};
 ghost use Rattle.ct_text.specs.Number.{spaced};
 
+use ct_names::Id;
 use ct_text::put_spaced;
 use std::alloc::{AllocError, Global};
 
@@ -31,4 +32,12 @@ pub fn put_numbered_pair(
 {
     put_numbered(alloc, text, name, first)?;
     put_spaced(alloc, text, second)
+}
+
+/// Puts the name of a fault and an id at the end of the text. `Err` is want of memory.
+pub fn put_named(text: &mut Vec<u8>, name: &[u8], id: Id) -> Result<(), AllocError>
+    ensures { OnOk result (text.new.items ≡ text.old.items ++ (name.now ++ id)) }
+{
+    text.extend_from_slice(name)?;
+    text.extend_from_slice(id.text())
 }

@@ -11,10 +11,11 @@ use Rattle.ct_fields.specs.Cites.{IsCites}
 use Rattle.ct_files.specs.Document.{DocumentValue, document_read_of}
 use Rattle.ct_files.proofs.Documents.{document_without_limit-right}
 use Rattle.ct_kind.specs.Named.{NamedCode}
-use Rattle.ct_pieces.specs.Kind.{stated_entry, size_over}
+use Rattle.ct_files.specs.ByKind.{stated_entry, size_over}
 use Rattle.ct_pieces.specs.Piece.{PieceValue, has_id, stored_by, stored_words}
 use Rattle.ct_pieces.specs.Codes.{named_code, codes_after, codes_of}
-use Rattle.ct_pieces.specs.Submission.{evidence_reason, piece_of, made_unless, made_of, piece_from, stored_beside, unless_full, submitted}
+use Rattle.ct_files.specs.ByKind.{evidence_reason}
+use Rattle.ct_pieces.specs.Submission.{piece_of, made_unless, made_of, piece_from, stored_beside, unless_full, submitted}
 use Rattle.ct_pieces.specs.Supports.{support_of, supports_of}
 use Rattle.ct_rule_parts.specs.declared.support.Support.{Support}
 use Rattle.ct_pieces.specs.Withdrawal.{names_any, ids_along, taken_along}

@@ -10,7 +10,7 @@ use Rattle.ct_words.specs.Numbers.{numbers_of, combination}
 use Rattle.ct_rule_parts.specs.declared.support.Support.TheVariants.{Bound, Odd, Local}
 use Rattle.ct_kind.specs.declared.evidence.Evidence.{Evidence}
 use Rattle.ct_kind.specs.declared.evidence.Evidence.TheVariants as evidence
-use Rattle.ct_pieces.specs.Kind.{kind_of, IsChecked}
+use Rattle.ct_files.specs.ByKind.{kind_of, IsChecked}
 use Rattle.ct_dual_files.specs.DualKind.{with_at_zero, dual_support, IsDualChecked}
 use Rattle.ct_laws.proofs.DualReasons.{odd_gives, local_gives}
 use Rattle.ct_pieces.specs.Piece.{PieceValue}

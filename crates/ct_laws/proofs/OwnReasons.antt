@@ -4,7 +4,7 @@ use Rattle.ct_kind.specs.declared.evidence.Evidence.{Evidence}
 use Rattle.ct_kind.specs.declared.evidence.Evidence.TheVariants.{Words, Cosets, Partition, Build, Product, Dual, JohnsonDual, Odd, JohnsonLocal}
 use Rattle.ct_files.specs.Evidence.{IsSound}
 use Rattle.ct_kind.specs.Named.{NamedCode, code_named, other_named}
-use Rattle.ct_pieces.specs.Kind.{own_reason, IsChecked}
+use Rattle.ct_files.specs.ByKind.{own_reason, IsChecked}
 use Rattle.ct_laws.specs.OwnRefusal.{IsOwnRefusal}
 use Rattle.ct_kind.specs.declared.fault.SubmitFault.{SubmitFault}
 use Rattle.ct_word_files.proofs.WordsKind.{words_accepted, words_checked}

@@ -7,10 +7,10 @@ use Rattle.ct_words.specs.PairProducts.{all_places}
 use Rattle.ct_words.specs.declared.entry.Entry.{Entry}
 use Rattle.ct_words.specs.declared.fault.TheConstants.{MAX_WORDS}
 use Rattle.ct_words.specs.Pairs.{first_of, least_pair, IsLeastPair, NoPair}
-use Rattle.ct_partitions.specs.declared.fault.PartitionFault.{PartitionFault}
-use Rattle.ct_partitions.specs.declared.fault.PartitionFault.TheVariants as partition
-use Rattle.ct_partitions.specs.declared.fault.TheConstants.{MAX_CLASSES}
-use Rattle.ct_partitions.specs.Partition.{words_of_classes}
+use Rattle.ct_classes.specs.declared.fault.PartitionFault.{PartitionFault}
+use Rattle.ct_classes.specs.declared.fault.PartitionFault.TheVariants as partition
+use Rattle.ct_classes.specs.declared.fault.TheConstants.{MAX_CLASSES}
+use Rattle.ct_classes.specs.Partition.{words_of_classes}
 use Rattle.ct_partitions.specs.Check.{class_at, counted, need, distance_at, is_close, wrong_count, size_fault, weight_fault, repeated_fault, close_fault, partition_fault}
 use Rattle.ct_laws.specs.Weights.{HaveWeight, IsFirstOfOtherWeight}
 use Rattle.ct_kind.specs.Named.{NamedCode}

@@ -12,7 +12,7 @@ use Rattle.std.proofs.lemmas.Option.{slice_get-map, slice_get_within, get_or_fro
 use Rattle.std.proofs.lemmas.Slice.Eq.{bytes_eq-Decides}
 use Rattle.ct_rule_parts.specs.declared.support.Support.{Support}
 use Rattle.ct_rules.specs.Derivation.{LineValue, IsDerivation}
-use Rattle.ct_pieces.specs.Kind.{parts_of, names}
+use Rattle.ct_files.specs.ByKind.{parts_of, names}
 use Rattle.ct_pieces.specs.Piece.{PieceValue, place_of as piece_place}
 use Rattle.ct_pieces.specs.Standing.{AreStanding}
 use Rattle.ct_pieces.specs.Supports.{support_of, supports_of}

@@ -11,7 +11,7 @@ use Rattle.ct_kind.specs.Named.{is_known, first_missing}
 use Rattle.ct_pieces.specs.Withdrawal.{without, withdrawn, unless_used}
 use Rattle.ct_pieces.specs.declared.fault.WithdrawFault.{WithdrawFault}
 use Rattle.ct_pieces.specs.declared.fault.WithdrawFault.TheVariants as withdraw
-use Rattle.ct_pieces.specs.Kind.{names, parts_of, own_reason}
+use Rattle.ct_files.specs.ByKind.{names, parts_of, own_reason}
 use Rattle.ct_pieces.specs.Piece.{PieceValue, has_id, stored_by, stored_words, first_user}
 use Rattle.ct_pieces.specs.Codes.{codes_of}
 use Rattle.ct_pieces.specs.Submission.{piece_of, made_unless, piece_from, stored_beside, unless_full, submitted}
@@ -22,7 +22,7 @@ use Rattle.ct_kind.specs.declared.fault.SubmitFault.TheVariants.{Taken, FullPiec
 use Rattle.ct_files.specs.Evidence.{read_of}
 use Rattle.ct_files.proofs.Documents.{document_read_of-right, document_read_of-err}
 use Rattle.ct_pieces.proofs.CodeLemmas.{known_where_taken}
-use Rattle.ct_pieces.proofs.NoMemory.{IsOwn, reason-own}
+use Rattle.ct_files.proofs.OwnReasons.{IsOwn, reason-own}
 use Rattle.ct_laws.proofs.OwnReasons.{own_checked}
 use Rattle.ct_laws.proofs.OwnReasons.{own-told, own-tells, no_own_reason}
 use Rattle.ct_pieces.proofs.StandingLemmas.{has_id-none}

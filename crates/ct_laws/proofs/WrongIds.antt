@@ -6,7 +6,7 @@ use Rattle.std.proofs.lemmas.List.Elements.{All-nil, All-cons, All-head, All-tai
 use Rattle.ct_words.specs.declared.entry.Entry.{Entry}
 use Rattle.ct_words.specs.Pairs.{first_of}
 use Rattle.ct_words.proofs.CheckLemmas.{first_of-None}
-use Rattle.ct_partitions.specs.Partition.{PartitionValue}
+use Rattle.ct_classes.specs.Partition.{PartitionValue}
 use Rattle.ct_kind.specs.Named.{NamedCode, partition_named}
 use Rattle.ct_laws.proofs.Says.{Says}
 use Rattle.ct_partition_files.specs.ProductKind.{Ids, factor_named, first_length, is_wrong_first, add_up, is_wrong_second, wrong_of_pair, wrong_of_pairs, wrong_id}

@@ -4,7 +4,7 @@ use Rattle.ct_kind.specs.declared.evidence.Evidence.{Evidence}
 use Rattle.ct_files.specs.Evidence.{IsSound}
 use Rattle.ct_kind.specs.Named.{NamedCode}
 use Rattle.ct_rule_parts.specs.declared.support.Support.{Support}
-use Rattle.ct_pieces.specs.Kind.{kind_of, own_reason}
+use Rattle.ct_files.specs.ByKind.{kind_of, own_reason}
 
 -- evidence of a kind without size has the form of a document's, its check finds nothing against it, and what it gives is the support at this place
 pub record IsSupportOf (known : List NamedCode) (supports : List Support) (place : ℕ) (evidence : Evidence) : Type 0 where

@@ -5,10 +5,10 @@ use Rattle.ct_words.specs.PairProducts.{all_places}
 use Rattle.ct_words.specs.declared.entry.Entry.{Entry}
 use Rattle.ct_words.specs.declared.fault.TheConstants.{MAX_WORDS}
 use Rattle.ct_words.specs.Pairs.{IsLeastPair, NoPair}
-use Rattle.ct_partitions.specs.declared.fault.PartitionFault.{PartitionFault}
-use Rattle.ct_partitions.specs.declared.fault.PartitionFault.TheVariants as partition
-use Rattle.ct_partitions.specs.declared.fault.TheConstants.{MAX_CLASSES}
-use Rattle.ct_partitions.specs.Partition.{words_of_classes}
+use Rattle.ct_classes.specs.declared.fault.PartitionFault.{PartitionFault}
+use Rattle.ct_classes.specs.declared.fault.PartitionFault.TheVariants as partition
+use Rattle.ct_classes.specs.declared.fault.TheConstants.{MAX_CLASSES}
+use Rattle.ct_classes.specs.Partition.{words_of_classes}
 use Rattle.ct_partitions.specs.Check.{class_at, need, distance_at, is_close, counted}
 use Rattle.ct_laws.specs.Weights.{HaveWeight, IsFirstOfOtherWeight}
 use Rattle.ct_kind.specs.declared.fault.SubmitFault.{SubmitFault}

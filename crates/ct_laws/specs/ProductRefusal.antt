@@ -3,7 +3,7 @@ use Rattle.std.specs.Prelude.{◌≡◌, ◌⊎◌, ◌<◌, ℕ, ◌+◌, List,
 use Rattle.ct_words.specs.declared.entry.Entry.{Entry}
 use Rattle.ct_words.specs.Constructions.Juxtaposed.{added_weights}
 use Rattle.ct_build.specs.declared.fault.BuildFault.TheVariants as build
-use Rattle.ct_partitions.specs.Partition.{PartitionValue}
+use Rattle.ct_classes.specs.Partition.{PartitionValue}
 use Rattle.ct_partitions.specs.Product.{product_distance}
 use Rattle.ct_kind.specs.Named.{NamedCode, partition_named}
 use Rattle.ct_kind.specs.declared.fault.SubmitFault.{SubmitFault}

@@ -1,7 +1,7 @@
 -- Why a submission or a withdrawal over the pieces that stand is refused, reason by reason: each holds where those before it don't.
 use Rattle.std.specs.Prelude.{◌≡◌, ◌≢◌, ◌<◌, ◌≤◌, ℕ, true, false, ◌+◌, List, ◌∷◌, ◌++◌, length, map, All, Contains, Ok, Err}
 use Rattle.ct_files.specs.Document.{DocumentValue, document_read_of}
-use Rattle.ct_pieces.specs.Kind.{names, parts_of, IsChecked}
+use Rattle.ct_files.specs.ByKind.{names, parts_of, IsChecked}
 use Rattle.ct_laws.specs.OwnRefusal.{IsOwnRefusal}
 use Rattle.ct_pieces.specs.Piece.{PieceValue, stored_by, stored_words}
 use Rattle.ct_pieces.specs.Codes.{codes_of}

@@ -8,7 +8,7 @@ ghost use Rattle.ct_words.specs.declared.entry.Entry.{Entry};
 ghost use Rattle.ct_rule_parts.specs.Slot.{claim_at};
 ghost use Rattle.ct_derive.specs.Derivation.{DerivationValue, AreOrdered};
 ghost use Rattle.ct_derive.specs.Pieces.{AreEarlier};
-ghost use Rattle.ct_pieces.specs.Kind.{names};
+ghost use Rattle.ct_files.specs.ByKind.{names};
 ghost use Rattle.ct_pieces.specs.Piece.{PieceValue};
 ghost use Rattle.ct_pieces.specs.Standing.{AreStanding};
 ghost use Rattle.ct_explain.specs.Explained.{ExplainsBest};

@@ -17,7 +17,7 @@ use Rattle.ct_rules.proofs.GivenCodes.{support-derived}
 use Rattle.ct_kind.specs.declared.evidence.Evidence.{Evidence}
 use Rattle.ct_kind.specs.declared.evidence.Evidence.TheVariants.{Words, Cosets, Partition, Build, Product, Dual, JohnsonDual, Odd, JohnsonLocal}
 use Rattle.ct_kind.specs.Ascending.{ascending}
-use Rattle.ct_pieces.specs.Kind.{kind_of, stated_entry, has_code, words_over}
+use Rattle.ct_files.specs.ByKind.{kind_of, stated_entry, has_code, words_over}
 use Rattle.ct_pieces.specs.Piece.{PieceValue}
 use Rattle.ct_kind.specs.Ascending.{code_at}
 use Rattle.ct_pieces.specs.Codes.{codes_of, code_of_place}

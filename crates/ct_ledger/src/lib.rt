@@ -3,8 +3,8 @@
 
 mod ledger;
 
+pub use ct_files::submit_refusal;
 pub use ct_pieces::{
-    MAX_PIECES, MAX_STORED, Piece, Pieces, SubmitFault, WithdrawFault, submit_refusal,
-    withdraw_refusal,
+    MAX_PIECES, MAX_STORED, Piece, Pieces, SubmitFault, WithdrawFault, withdraw_refusal,
 };
 pub use ledger::Ledger;

@@ -3,7 +3,7 @@
 ghost use Rattle.std.specs.Prelude.{◌≡◌, ◌^◌, ◌<◌, ◌≤◌, true, All, IfOk};
 ghost use Rattle.ct_words.specs.declared.limits.TheConstants.{MAX_N};
 ghost use Rattle.ct_words.specs.Entry.{unrestricted};
-ghost use Rattle.ct_partitions.specs.Partition.{word_lists, words_of_classes};
+ghost use Rattle.ct_classes.specs.Partition.{word_lists, words_of_classes};
 
 use crate::build_parts::{have_length, shows};
 use ct_partitions::{

@@ -5,7 +5,7 @@ use Rattle.std.proofs.lemmas.Option.{option_and_then_some}
 use Rattle.toml.specs.Data.{Data, string, integer, float, boolean, datetime, array, table, Items, no_items, item, get}
 use Rattle.toml.specs.View.{items_of}
 use Rattle.ct_words.specs.Text.{word_text}
-use Rattle.ct_partitions.specs.Partition.{words_of_classes}
+use Rattle.ct_classes.specs.Partition.{words_of_classes}
 use Rattle.ct_fields.specs.Field.{field_text}
 use Rattle.ct_fields.specs.Steps.{◌>>=◌}
 use Rattle.ct_fields.specs.Fields.{texts_in, words_from}

@@ -3,7 +3,7 @@ use Rattle.std.proofs.Common.{◌≡◌, ℕ, ◌^◌, ◌<◌, ◌≤◌, List,
 use Rattle.std.specs.Prelude.{All}
 use Rattle.ct_words.specs.declared.entry.Entry.{Entry}
 use Rattle.ct_words.specs.Entry.{IsEntry}
-use Rattle.ct_partitions.specs.Partition.{words_of_classes, IsPartition}
+use Rattle.ct_classes.specs.Partition.{words_of_classes, IsPartition}
 use Rattle.ct_partitions.specs.Check.{partition_fault, wrong_count}
 use Rattle.ct_partitions.proofs.PartitionFaults.{sizes_of_count, no_fault_of_partition, sound_from_check}
 use Rattle.ct_kind.specs.Named.{NamedCode}

@@ -17,7 +17,7 @@ use Rattle.ct_words.proofs.CheckLemmas.{first_of-None}
 use Rattle.ct_words.proofs.EntryLemmas.{entry_limits}
 use Rattle.ct_words.specs.Constructions.Juxtaposed.{added_weights}
 use Rattle.ct_build.specs.declared.fault.BuildFault.TheVariants as build
-use Rattle.ct_partitions.specs.Partition.{PartitionValue, IsSoundPartition}
+use Rattle.ct_classes.specs.Partition.{PartitionValue, IsSoundPartition}
 use Rattle.ct_partitions.specs.Product.{Factors, product, product_size, product_distance, AreFactors, AreSound as AreSoundFactors, no_partition, pairs_at, ArePairsOfPlaces}
 use Rattle.ct_partitions.proofs.ProductCodes.{IsCode-product, length-product}
 use Rattle.ct_partitions.proofs.ProductLemmas.{some_of_product}

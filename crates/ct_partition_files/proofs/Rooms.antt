@@ -4,7 +4,7 @@ use Rattle.std.specs.Prelude.{◌+◌, ◌*◌, All}
 use Rattle.std.proofs.lemmas.List.Elements.{All-head, All-tail}
 use Rattle.toml.specs.Data.{integer}
 use Rattle.ct_words.specs.declared.entry.Entry.{Entry}
-use Rattle.ct_partitions.specs.Partition.{words_of_classes}
+use Rattle.ct_classes.specs.Partition.{words_of_classes}
 use Rattle.ct_fields.specs.Inside.Room.{IsSimple, room}
 use Rattle.ct_fields.proofs.RoomLemmas.{Holds, holds-put, holds-more, holds-weight, holds-entry, words-simple, words-room, id-bare, id-short}
 use Rattle.ct_partition_files.specs.Written.{AreIds, class_list, pair_list, partition_table, product_table}

@@ -3,7 +3,7 @@ use Rattle.std.proofs.Common.{◌≡◌, ℕ, ◌^◌, ◌<◌, zero, suc, List,
 use Rattle.std.specs.Prelude.{All, Vec}
 use Rattle.std.proofs.lemmas.List.Elements.{All-head, All-tail}
 use Rattle.toml.specs.Data.{Data}
-use Rattle.ct_partitions.specs.Partition.{word_lists}
+use Rattle.ct_classes.specs.Partition.{word_lists}
 use Rattle.ct_fields.specs.Written.{word_texts}
 
 -- where the words of each class have the length, those of the class at a place have it

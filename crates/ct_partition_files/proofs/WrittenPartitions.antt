@@ -10,7 +10,7 @@ use Rattle.ct_words.specs.Text.{word_text}
 use Rattle.ct_words.specs.declared.entry.Entry.{Entry}
 use Rattle.ct_words.specs.Entry.{IsEntry}
 use Rattle.ct_words.proofs.EntryLemmas.{WeightFits, Limits, entry_limits}
-use Rattle.ct_partitions.specs.Partition.{words_of_classes}
+use Rattle.ct_classes.specs.Partition.{words_of_classes}
 use Rattle.ct_fields.specs.Field.{field_text}
 use Rattle.ct_fields.specs.Forms.{pair_data}
 use Rattle.ct_fields.specs.LastFields.{last_fields}

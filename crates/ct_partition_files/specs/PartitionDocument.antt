@@ -6,8 +6,8 @@ use Rattle.toml.specs.View.{items_of}
 use Rattle.ct_words.specs.Text.{word_text}
 use Rattle.ct_words.specs.declared.entry.Entry.{Entry}
 use Rattle.ct_words.specs.declared.fault.TheConstants.{MAX_WORDS}
-use Rattle.ct_partitions.specs.declared.fault.TheConstants.{MAX_CLASSES}
-use Rattle.ct_partitions.specs.Partition.{words_of_classes}
+use Rattle.ct_classes.specs.declared.fault.TheConstants.{MAX_CLASSES}
+use Rattle.ct_classes.specs.Partition.{words_of_classes}
 use Rattle.ct_partitions.specs.Check.{counted}
 use Rattle.ct_fields.specs.Field.{field_text}
 use Rattle.ct_fields.specs.Tables.{IsDocument, IsOfKind, HasNumber, IsFirstWrong}

@@ -1,8 +1,8 @@
 -- The texts of faults of partitions.
 use Rattle.std.specs.Prelude.{ℕ, List, [], ◌++◌, codes}
 use Rattle.ct_text.specs.Number.{spaced}
-use Rattle.ct_partitions.specs.declared.fault.PartitionFault.{PartitionFault}
-use Rattle.ct_partitions.specs.declared.fault.PartitionFault.TheVariants as partition
+use Rattle.ct_classes.specs.declared.fault.PartitionFault.{PartitionFault}
+use Rattle.ct_classes.specs.declared.fault.PartitionFault.TheVariants as partition
 
 -- why classes are no partition: the words count from 0 through all classes, and `close` tells their distance, their classes and what they need; want
 -- of memory has no text

@@ -2,7 +2,7 @@
 use Rattle.std.specs.Prelude.{ℕ, false, List, [], length, Some, None, option_map, codes}
 use Rattle.ct_words.specs.declared.entry.Entry.{Entry}
 use Rattle.ct_partitions.specs.Check.{partition_fault}
-use Rattle.ct_partitions.specs.Partition.{words_of_classes}
+use Rattle.ct_classes.specs.Partition.{words_of_classes}
 use Rattle.ct_rule_parts.specs.declared.support.Support.TheVariants.{Nothing}
 use Rattle.ct_kind.specs.KindParts.{KindParts}
 use Rattle.ct_kind.specs.declared.fault.SubmitFault.TheVariants as fault

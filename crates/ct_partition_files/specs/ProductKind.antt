@@ -6,7 +6,7 @@ use Rattle.std.specs.Option.{unwrap_or}
 use Rattle.ct_words.specs.declared.entry.Entry.{Entry}
 use Rattle.ct_words.specs.Pairs.{first_of}
 use Rattle.ct_build.specs.declared.fault.BuildFault.TheVariants as build
-use Rattle.ct_partitions.specs.Partition.{PartitionValue}
+use Rattle.ct_classes.specs.Partition.{PartitionValue}
 use Rattle.ct_partitions.specs.Product.{Factors, product, product_size, product_distance, AreFactors, no_partition}
 use Rattle.ct_kind.specs.Named.{NamedCode, partition_named}
 use Rattle.ct_kind.specs.KindParts.{KindParts, support_from}

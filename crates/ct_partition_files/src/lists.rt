@@ -2,7 +2,7 @@
 ghost use Rattle.std.specs.Prelude.{◌≡◌, ◌≤◌, IfOk, option_map};
 ghost use Rattle.toml.specs.View.{view, items_view};
 ghost use Rattle.ct_words.specs.declared.limits.TheConstants.{MAX_N};
-ghost use Rattle.ct_partitions.specs.Partition.{word_lists};
+ghost use Rattle.ct_classes.specs.Partition.{word_lists};
 ghost use Rattle.ct_fields.specs.Reads.{Reads, texts_behind};
 ghost use Rattle.ct_fields.specs.Fields.{texts_in};
 ghost use Rattle.ct_partition_files.specs.Lists.{lists_behind, text_lists_of, text_lists_field, classes_from};

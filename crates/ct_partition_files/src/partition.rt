@@ -2,7 +2,7 @@
 ghost use Rattle.std.specs.Prelude.{◌≡◌, ◌≤◌};
 ghost use Rattle.toml.specs.View.{view};
 ghost use Rattle.ct_words.specs.declared.limits.TheConstants.{MAX_N};
-ghost use Rattle.ct_partitions.specs.Partition.{word_lists};
+ghost use Rattle.ct_classes.specs.Partition.{word_lists};
 ghost use Rattle.ct_fields.specs.Reads.{Reads};
 ghost use Rattle.ct_partition_files.specs.Lists.{lists_behind, class_count};
 ghost use Rattle.ct_partition_files.specs.Partition.{partition_of_lists, partition_evidence_of};

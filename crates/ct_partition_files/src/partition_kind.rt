@@ -3,7 +3,7 @@
 ghost use Rattle.std.specs.Prelude.{◌≡◌, ◌≢◌, ◌<◌, ◌≤◌, ◌^◌, All, Some, None, IfOk, IfErr, OnOk, length, option_map, false, codes};
 ghost use Rattle.ct_words.specs.Entry.{IsEntry};
 ghost use Rattle.ct_partitions.specs.Check.{partition_fault, wrong_count};
-ghost use Rattle.ct_partitions.specs.Partition.{words_of_classes, word_lists};
+ghost use Rattle.ct_classes.specs.Partition.{words_of_classes, word_lists};
 
 use ct_kind::{Kind, SubmitFault};
 use ct_partitions::{partition_fault, word_count};

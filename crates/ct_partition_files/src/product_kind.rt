@@ -9,7 +9,7 @@ ghost use Rattle.ct_words.specs.declared.limits.TheConstants.{MAX_N, MAX_BOUND};
 ghost use Rattle.ct_words.specs.Code.{IsSoundCode};
 ghost use Rattle.ct_words.specs.Entry.{IsEntry};
 ghost use Rattle.ct_words.specs.Pairs.{first_of};
-ghost use Rattle.ct_partitions.specs.Partition.{PartitionValue};
+ghost use Rattle.ct_classes.specs.Partition.{PartitionValue};
 ghost use Rattle.ct_partitions.specs.Product.{product, product_distance, product_size, pairs_at, ArePairsOfPlaces, AreFactors};
 ghost use Rattle.ct_kind.specs.Ascending.{code_at};
 ghost use Rattle.ct_kind.specs.KindParts.{kind_reason};

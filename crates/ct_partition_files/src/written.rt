@@ -3,7 +3,7 @@ ghost use Rattle.std.specs.Prelude.{◌≡◌, ◌^◌, ◌<◌, ◌≤◌, All,
 ghost use Rattle.toml.specs.Data.{string, integer};
 ghost use Rattle.toml.specs.View.{view, table_view};
 ghost use Rattle.ct_words.specs.declared.limits.TheConstants.{MAX_N};
-ghost use Rattle.ct_partitions.specs.Partition.{word_lists, words_of_classes};
+ghost use Rattle.ct_classes.specs.Partition.{word_lists, words_of_classes};
 ghost use Rattle.ct_fields.specs.Forms.{pair_data};
 ghost use Rattle.ct_fields.specs.Written.{put, put_weight};
 ghost use Rattle.ct_partition_files.specs.Written.{AreIds, class_list, pair_list, partition_table, product_table};

@@ -5,7 +5,7 @@ use Rattle.std.proofs.lemmas.Bool.{cases_lt, lt-ltb, le-ltb}
 use Rattle.std.proofs.lemmas.List.{map-append, drop_more, take_more}
 use Rattle.std.proofs.lemmas.List.Concat.{flat_map-append}
 use Rattle.ct_words.specs.Word.{distance}
-use Rattle.ct_partitions.specs.Partition.{word_lists, words_of_classes}
+use Rattle.ct_classes.specs.Partition.{word_lists, words_of_classes}
 use Rattle.ct_partitions.specs.Check.{class_at, is_close}
 use Rattle.ct_partitions.specs.Inside.Rows.{is_near}
 

@@ -11,7 +11,7 @@ use Rattle.ct_words.specs.Word.{distance}
 use Rattle.ct_words.specs.PairProducts.{all_places}
 use Rattle.ct_words.specs.Pairs.{least_pair, IsLeastPair}
 use Rattle.ct_words.proofs.PairLemmas.{least_pair-at, IsLeastPair-from, NoPair-from}
-use Rattle.ct_partitions.specs.Partition.{word_lists, words_of_classes}
+use Rattle.ct_classes.specs.Partition.{word_lists, words_of_classes}
 use Rattle.ct_partitions.specs.Check.{is_close, class_at}
 use Rattle.ct_partitions.specs.Inside.Rows.{NotAfter, IsLesser}
 use Rattle.ct_partitions.proofs.ClassLemmas.{lists_split, words_up_to, row_same}

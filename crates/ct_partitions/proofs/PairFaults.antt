@@ -10,8 +10,8 @@ use Rattle.ct_words.proofs.WordLemmas.{distance_same, weight_any_length}
 use Rattle.ct_words.specs.Pairs.{first_of, least_pair}
 use Rattle.ct_words.proofs.PairLemmas.{least_pair-none, NoPair-from}
 use Rattle.ct_words.proofs.CheckLemmas.{equal_is_close}
-use Rattle.ct_partitions.specs.declared.fault.PartitionFault.TheVariants.{Repeated, Close}
-use Rattle.ct_partitions.specs.Partition.{words_of_classes}
+use Rattle.ct_classes.specs.declared.fault.PartitionFault.TheVariants.{Repeated, Close}
+use Rattle.ct_classes.specs.Partition.{words_of_classes}
 use Rattle.ct_partitions.specs.Check.{class_at, need, distance_at, is_close, repeated_fault, close_fault}
 
 -- what two places need is at least the distance between classes

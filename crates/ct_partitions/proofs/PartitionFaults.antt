@@ -15,9 +15,9 @@ use Rattle.ct_words.specs.Code.{IsCode}
 use Rattle.ct_words.proofs.PairLemmas.{least_pair-none, NoPair-from}
 use Rattle.ct_words.proofs.CheckLemmas.{AllPairs-from_get_or, option_map-None, first_of-None, weight-none, weight_none_from}
 use Rattle.ct_words.specs.declared.fault.CodeFault.TheVariants.{Weight as Weight_of_code}
-use Rattle.ct_partitions.specs.declared.fault.TheConstants.{MAX_CLASSES}
-use Rattle.ct_partitions.specs.declared.fault.PartitionFault.TheVariants.{Size, Weight}
-use Rattle.ct_partitions.specs.Partition.{words_of_classes, IsPartition, IsSoundPartition}
+use Rattle.ct_classes.specs.declared.fault.TheConstants.{MAX_CLASSES}
+use Rattle.ct_classes.specs.declared.fault.PartitionFault.TheVariants.{Size, Weight}
+use Rattle.ct_classes.specs.Partition.{words_of_classes, IsPartition, IsSoundPartition}
 use Rattle.ct_partitions.specs.Check.{class_at, counted, need, distance_at, is_close, wrong_count, size_fault, weight_fault, repeated_fault, close_fault, partition_fault}
 use Rattle.ct_partitions.proofs.PairFaults.{between-le-need, needs_from_none, different_from_needs}
 

@@ -17,7 +17,7 @@ use Rattle.ct_words.specs.Constructions.Joined.{followed_by}
 use Rattle.ct_words.specs.Constructions.Juxtaposed.{added_weights}
 use Rattle.ct_words.proofs.Constructions.JoinedLemmas.{followed_by-lt, weight-followed_by, distance-followed_by}
 use Rattle.ct_words.proofs.Constructions.FarWords.{AreFar, code_from_far}
-use Rattle.ct_partitions.specs.Partition.{words_of_classes, IsPartition}
+use Rattle.ct_classes.specs.Partition.{words_of_classes, IsPartition}
 use Rattle.ct_partitions.specs.Product.{Factors, all_followed, class_products, product, weight_of, pair_distance, weight_gap, distances, least, product_size, product_distance, AreFactors}
 
 -- what holds of two lists in a row holds of each

@@ -7,7 +7,7 @@ use Rattle.std.proofs.Math.Nat.{mul-le-mul_left}
 use Rattle.std.proofs.lemmas.List.{length-map, flat_map_more, map-append, get_or-map, get_or_read, drop_more, drop_all, take_more}
 use Rattle.std.proofs.lemmas.List.Sums.{fold-append, sum_by-append, sum_by-take-le}
 use Rattle.std.proofs.lemmas.Slice.Zip.{length-zip, get_or-zip}
-use Rattle.ct_partitions.specs.Partition.{word_lists, words_of_classes, PartitionValue, IsSoundPartition}
+use Rattle.ct_classes.specs.Partition.{word_lists, words_of_classes, PartitionValue, IsSoundPartition}
 use Rattle.ct_partitions.specs.Product.{Factors, all_followed, class_products, product, pair_distance, weight_gap, distances, least, product_size, product_distance, AreFactors, AreSound, no_partition, pairs_at, ArePairsOfPlaces}
 use Rattle.ct_partitions.proofs.ProductCodes.{below_each, length-followed}
 use Rattle.ct_words.specs.declared.limits.TheConstants.{MAX_N}

@@ -6,7 +6,7 @@ use Rattle.ct_words.proofs.WordLemmas.{distance_any_length}
 use Rattle.ct_words.specs.PairProducts.{all_places}
 use Rattle.ct_words.specs.Pairs.{least_pair}
 use Rattle.ct_words.proofs.PairLemmas.{least_pair-none}
-use Rattle.ct_partitions.specs.Partition.{words_of_classes}
+use Rattle.ct_classes.specs.Partition.{words_of_classes}
 use Rattle.ct_partitions.specs.Check.{is_close, need}
 use Rattle.ct_partitions.specs.Inside.Rows.{NoneFrom}
 

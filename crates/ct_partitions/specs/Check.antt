@@ -8,10 +8,10 @@ use Rattle.ct_words.specs.PairProducts.{all_places}
 use Rattle.ct_words.specs.declared.entry.Entry.{Entry}
 use Rattle.ct_words.specs.declared.fault.TheConstants.{MAX_WORDS}
 use Rattle.ct_words.specs.Pairs.{first_of, least_pair}
-use Rattle.ct_partitions.specs.declared.fault.PartitionFault.{PartitionFault}
-use Rattle.ct_partitions.specs.declared.fault.PartitionFault.TheVariants.{Size, Weight, Repeated, Close}
-use Rattle.ct_partitions.specs.declared.fault.TheConstants.{MAX_CLASSES}
-use Rattle.ct_partitions.specs.Partition.{words_of_classes}
+use Rattle.ct_classes.specs.declared.fault.PartitionFault.{PartitionFault}
+use Rattle.ct_classes.specs.declared.fault.PartitionFault.TheVariants.{Size, Weight, Repeated, Close}
+use Rattle.ct_classes.specs.declared.fault.TheConstants.{MAX_CLASSES}
+use Rattle.ct_classes.specs.Partition.{words_of_classes}
 
 -- the class of the word at a place
 abbrev pub class_at : List (List ℕ) → ℕ → ℕ

@@ -1,4 +1,3 @@
-pub mod Partition
 pub mod Check
 pub mod Product
 pub mod Inside

@@ -6,7 +6,7 @@ use Rattle.std.specs.Option.{unwrap_or}
 use Rattle.ct_words.specs.Entry.{unrestricted}
 use Rattle.ct_words.specs.Constructions.Joined.{followed_by}
 use Rattle.ct_words.specs.Constructions.Juxtaposed.{added_weights}
-use Rattle.ct_partitions.specs.Partition.{PartitionValue, IsSoundPartition}
+use Rattle.ct_classes.specs.Partition.{PartitionValue, IsSoundPartition}
 
 -- two partitions
 abbrev pub Factors : Type 0

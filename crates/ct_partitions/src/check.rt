@@ -6,12 +6,11 @@ ghost use Rattle.ct_words.specs.Word.{weight};
 ghost use Rattle.ct_words.specs.Entry.{IsEntry};
 ghost use Rattle.ct_words.specs.Pairs.{first_of};
 ghost use Rattle.ct_words.specs.declared.fault.TheConstants.{MAX_WORDS};
-ghost use Rattle.ct_partitions.specs.Partition.{word_lists, words_of_classes, IsSoundPartition};
+ghost use Rattle.ct_classes.specs.Partition.{word_lists, words_of_classes, IsSoundPartition};
 ghost use Rattle.ct_partitions.specs.Check.{class_at, counted, wrong_count, weight_fault, repeated_fault, close_fault, partition_fault};
 
 use crate::close::first_close_places;
-use crate::fault::{MAX_CLASSES, PartitionFault};
-use crate::partition::Partition;
+use ct_classes::{MAX_CLASSES, Partition, PartitionFault};
 use ct_codes::first_close_pair;
 use ct_words::{Entry, MAX_WORDS, Word, distance, weight};
 use std::alloc::{AllocError, Global};

@@ -3,7 +3,7 @@
 ghost use Rattle.std.specs.Prelude.{◌≡◌, ℕ, ◌^◌, ◌<◌, ◌≤◌, length, All, MatchOption, IfSome};
 ghost use Rattle.ct_words.specs.PairProducts.{all_places};
 ghost use Rattle.ct_words.specs.Pairs.{least_pair};
-ghost use Rattle.ct_partitions.specs.Partition.{word_lists, words_of_classes};
+ghost use Rattle.ct_classes.specs.Partition.{word_lists, words_of_classes};
 ghost use Rattle.ct_partitions.specs.Check.{is_close};
 ghost use Rattle.ct_partitions.specs.Inside.Rows.{IsLesser};
 

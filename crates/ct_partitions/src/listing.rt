@@ -4,10 +4,10 @@ ghost use Rattle.std.specs.Prelude.{◌≡◌, ◌+◌, ◌-◌, ◌^◌, ◌<�
 ghost use Rattle.ct_words.specs.declared.limits.TheConstants.{MAX_N};
 ghost use Rattle.ct_words.specs.Code.{IsSoundCode};
 ghost use Rattle.ct_words.specs.Constructions.Joined.{followed_by};
-ghost use Rattle.ct_partitions.specs.Partition.{IsSoundPartition};
+ghost use Rattle.ct_classes.specs.Partition.{IsSoundPartition};
 ghost use Rattle.ct_partitions.specs.Product.{all_followed, class_products, product, product_distance, AreFactors, AreSound, pairs_at, ArePairsOfPlaces};
 
-use crate::partition::Partition;
+use ct_classes::Partition;
 use ct_words::{Code, Entry, Word};
 use std::alloc::{AllocError, Global};
 

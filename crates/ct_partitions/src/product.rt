@@ -5,7 +5,7 @@ ghost use Rattle.ct_words.specs.declared.limits.TheConstants.{MAX_N};
 ghost use Rattle.ct_partitions.specs.Product.{product, product_size, pair_distance, weight_gap, distances, product_distance, pairs_at, ArePairsOfPlaces};
 ghost use Rattle.ct_partitions.specs.Inside.Pairs.{nearest_at, weights_apart, size_of_pair};
 
-use crate::partition::Partition;
+use ct_classes::Partition;
 use ct_words::Word;
 
 /// The distance of the product of pairs of partitions, each told by two places in the list of parts; there is a pair. It is

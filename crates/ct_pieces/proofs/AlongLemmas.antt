@@ -3,7 +3,7 @@ use Rattle.std.proofs.Common.{◌≡◌, ℕ, suc, ◌<◌, ◌≤◌, Bool, tru
 use Rattle.std.specs.Prelude.{slice_get}
 use Rattle.std.specs.Str.{bytes_eq}
 use Rattle.std.proofs.lemmas.Slice.Eq.{bytes_eq-Decides}
-use Rattle.ct_pieces.specs.Kind.{names}
+use Rattle.ct_files.specs.ByKind.{names}
 use Rattle.ct_pieces.specs.Piece.{PieceValue, has_id}
 use Rattle.ct_pieces.specs.Standing.{AreStanding}
 use Rattle.ct_pieces.specs.Withdrawal.{names_any, ids_along, taken_along, is_among, without_all, withdrawn_all, marks_along}

@@ -7,7 +7,7 @@ use Rattle.std.proofs.lemmas.List.Folds.{list_any_more}
 use Rattle.std.proofs.lemmas.Option.{same_Some, get_or_from_slice_get}
 use Rattle.std.proofs.lemmas.Slice.Eq.{bytes_eq-Decides}
 use Rattle.ct_partition_files.specs.ProductKind.{Ids, ids_of}
-use Rattle.ct_pieces.specs.Kind.{parts_of, names}
+use Rattle.ct_files.specs.ByKind.{parts_of, names}
 use Rattle.ct_pieces.specs.Piece.{PieceValue, has_id}
 use Rattle.ct_pieces.specs.Standing.{AreStanding}
 use Rattle.ct_pieces.specs.Withdrawal.{IsTakenAlong, taken_along, is_among}

@@ -7,8 +7,11 @@ use Rattle.ct_words.specs.Code.{CodeValue}
 use Rattle.ct_kind.specs.declared.evidence.Evidence.{Evidence}
 use Rattle.ct_kind.specs.Named.{NamedCode}
 use Rattle.ct_pieces.specs.Piece.{PieceValue}
-use Rattle.ct_pieces.specs.Codes.{code_over, named_code, codes_after, codes_of, code_of_place}
-use Rattle.ct_pieces.specs.Inside.Kept.{is_kept, kept_over, listed_code, kept_after, kept_codes, IsKept, AreKept, code_there}
+use Rattle.ct_files.specs.ByKind.{code_over}
+use Rattle.ct_pieces.specs.Codes.{named_code, codes_after, codes_of, code_of_place}
+use Rattle.ct_files.specs.ByKind.{is_kept, kept_over, listed_code}
+use Rattle.ct_pieces.specs.Inside.Kept.{kept_after, kept_codes, AreKept, code_there}
+use Rattle.ct_files.specs.Checked.{IsKept}
 use Rattle.ct_pieces.specs.Inside.Unmarked.{unmarked}
 use Rattle.ct_pieces.proofs.MakingLemmas.{code_of_place-is}
 

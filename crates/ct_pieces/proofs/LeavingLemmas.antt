@@ -7,22 +7,24 @@ use Rattle.std.proofs.lemmas.List.Elements.{filter-append, All-head, All-tail}
 use Rattle.std.proofs.lemmas.Slice.Eq.{bytes_eq-Decides}
 use Rattle.ct_words.specs.Code.{CodeValue}
 use Rattle.ct_words.specs.Pairs.{first_of}
-use Rattle.ct_partitions.specs.Partition.{PartitionValue}
+use Rattle.ct_classes.specs.Partition.{PartitionValue}
 use Rattle.ct_kind.specs.declared.evidence.Evidence.{Evidence}
 use Rattle.ct_kind.specs.Named.{NamedCode, is_known, first_missing, code_named, partition_named}
-use Rattle.ct_pieces.specs.Kind.{kind_of, stated_entry, parts_of, names}
+use Rattle.ct_files.specs.ByKind.{kind_of, stated_entry, parts_of, names}
 use Rattle.ct_pieces.specs.Piece.{PieceValue, first_user}
 use Rattle.ct_kind.specs.Ascending.{code_at}
 use Rattle.ct_pieces.specs.Codes.{named_code, codes_after, codes_of}
-use Rattle.ct_pieces.specs.Submission.{evidence_reason, made_unless, piece_from}
+use Rattle.ct_files.specs.ByKind.{evidence_reason}
+use Rattle.ct_pieces.specs.Submission.{made_unless, piece_from}
 use Rattle.ct_pieces.specs.Standing.{IsMade, AreMade}
-use Rattle.ct_pieces.specs.Inside.Kept.{is_kept, kept_over, kept_after}
+use Rattle.ct_files.specs.ByKind.{is_kept, kept_over}
+use Rattle.ct_pieces.specs.Inside.Kept.{kept_after}
 use Rattle.ct_pieces.specs.Inside.Unmarked.{unmarked}
 use Rattle.ct_kind.specs.declared.fault.SubmitFault.{SubmitFault}
 use Rattle.ct_kind.specs.declared.fault.SubmitFault.TheVariants as fault
 use Rattle.ct_pieces.proofs.CodeLemmas.{is_named}
 use Rattle.ct_kind.proofs.Stating.{SaysSame, IsAlike}
-use Rattle.ct_pieces.proofs.KindLemmas.{kind_same}
+use Rattle.ct_files.proofs.SameByKind.{kind_same}
 use Rattle.ct_pieces.proofs.MakingLemmas.{making-of}
 
 -- the codes whose ids pass a test

@@ -1,7 +1,5 @@
 pub mod CodeLemmas
 pub mod PartitionPlaces
-pub mod Stating
-pub mod KindLemmas
 pub mod MakingLemmas
 pub mod LeavingLemmas
 pub mod StandingLemmas
@@ -17,5 +15,4 @@ pub mod TakenAlong
 mod LeftOut
 mod AlongPass
 mod BuildPlaces
-mod Checking
 mod Putting

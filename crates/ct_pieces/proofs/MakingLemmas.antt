@@ -1,37 +1,23 @@
 -- What holds of evidence that makes a piece, and that its code is one.
-use Rattle.std.proofs.Common.{◌≡◌, ℕ, ◌<◌, ◌≤◌, Bool, true, false, cond, not, List, [], ◌∷◌, ◌++◌, length, take, get_or, Option, Some, None, option_map, Result, Ok, Err, refl, ap, subst}
-use Rattle.std.specs.Prelude.{All, IfSome, find, codes}
+use Rattle.std.proofs.Common.{◌≡◌, ℕ, ◌<◌, Bool, true, false, cond, not, List, [], ◌∷◌, ◌++◌, length, take, get_or, Option, Some, None, option_map, Result, Ok, Err, refl, ap, subst}
+use Rattle.std.specs.Prelude.{All, find}
 use Rattle.std.specs.Option.{option_flatten}
 use Rattle.std.proofs.lemmas.List.Elements.{All-push, All-nil, All-cons, All-head, All-tail}
-use Rattle.ct_words.specs.Code.{IsCodeOf, IsSoundCode}
-use Rattle.ct_words.proofs.CheckLemmas.{first_of-None}
-use Rattle.ct_kind.specs.declared.evidence.Evidence.{Evidence}
-use Rattle.ct_kind.specs.declared.evidence.Evidence.TheVariants.{Words, Cosets, Partition, Build, Product, Dual, JohnsonDual, Odd, JohnsonLocal}
 use Rattle.ct_fields.specs.declared.fault.DocumentFault.{DocumentFault}
 use Rattle.ct_files.specs.Document.{DocumentValue, document_without_limit}
-use Rattle.ct_files.specs.Evidence.{IsSound}
 use Rattle.ct_files.proofs.Documents.{document_without_limit-right}
 use Rattle.ct_kind.specs.Named.{NamedCode, is_known, first_missing}
-use Rattle.ct_pieces.specs.Kind.{stated_entry, parts_of, own_reason, words_over}
+use Rattle.ct_files.specs.ByKind.{words_over}
 use Rattle.ct_pieces.specs.Piece.{PieceValue}
-use Rattle.ct_kind.specs.Ascending.{code_at}
-use Rattle.ct_pieces.specs.Codes.{code_over, named_code, codes_after, codes_of, code_of_place}
-use Rattle.ct_pieces.specs.Submission.{evidence_reason, piece_of, made_unless, piece_from}
+use Rattle.ct_files.specs.ByKind.{code_over}
+use Rattle.ct_pieces.specs.Codes.{named_code, codes_after, codes_of, code_of_place}
+use Rattle.ct_files.specs.ByKind.{evidence_reason}
+use Rattle.ct_pieces.specs.Submission.{piece_of, made_unless, piece_from}
 use Rattle.ct_pieces.specs.Standing.{IsMade, AreMade}
 use Rattle.ct_kind.specs.declared.fault.SubmitFault.{SubmitFault}
-use Rattle.ct_kind.specs.declared.fault.SubmitFault.TheVariants as fault
-use Rattle.ct_kind.proofs.CodeAt.{code_at-sound}
 use Rattle.ct_pieces.proofs.CodeLemmas.{made_at, code_at_place}
 use Rattle.ct_kind.specs.Sound.{HasSoundCode, AreSound}
-use Rattle.ct_kind.proofs.Stating.{option_map-none}
-use Rattle.ct_pieces.proofs.Stating.{StatesCode}
-use Rattle.ct_word_files.proofs.WordsKind.{words_state}
-use Rattle.ct_word_files.proofs.CosetsKind.{cosets_state}
-use Rattle.ct_partition_files.proofs.PartitionKind.{partition_states}
-use Rattle.ct_partition_files.proofs.ProductKind.{product_states}
-use Rattle.ct_build_files.proofs.BuildKind.{build_states}
-use Rattle.ct_duals.proofs.FormLemmas.{allows_none-plain, allows_none-empty}
-use Rattle.ct_dual_files.proofs.DualKind.{dual_states, odd_states, local_states}
+use Rattle.ct_files.proofs.StatedByKind.{IsRight, states_code, over-sound}
 
 -- where none is found, the test fails of each
 find-none_all : {X : Type 0} (test : X → Bool) (xs : List X) → find test xs ≡ None → All (λ (x : X). test x ≡ false) xs
@@ -57,36 +43,6 @@ none_missing known ids h = λ i d within. not-false (is_known (get_or ids i d) k
 pub none_missing-from : (known : List NamedCode) (ids : List (List ℕ)) → All (λ (id : List ℕ). is_known id known ≡ true) ids → first_missing known ids ≡ None
 none_missing-from known ids h =
     find-none_from (λ (id : List ℕ). not (is_known id known)) ids (λ i d within. ap not (h i d within))
-
--- evidence that was read, and against which there is no reason over the codes
-pub record IsRight (known : List NamedCode) (evidence : Evidence) : Type 0 where
-  pub sound : IsSound evidence
-  pub faultless : evidence_reason known evidence ≡ None
-
--- so its kind's own check finds nothing
-pub right-own : (known : List NamedCode) (evidence : Evidence) → IsRight known evidence → own_reason known evidence ≡ None
-right-own known evidence h = (first_of-None (option_map fault.NoSuch (first_missing known (parts_of evidence))) (own_reason known evidence) h.faultless).1
-
--- and its parts are known
-pub right-parts : (known : List NamedCode) (evidence : Evidence) → IsRight known evidence → first_missing known (parts_of evidence) ≡ None
-right-parts known evidence h =
-    option_map-none fault.NoSuch (first_missing known (parts_of evidence))
-    (first_of-None (option_map fault.NoSuch (first_missing known (parts_of evidence))) (own_reason known evidence) h.faultless).0
-
--- evidence that its kind's own check finds nothing against states what it should
-pub own_states : (known : List NamedCode) (evidence : Evidence) → AreSound known → IsSound evidence → own_reason known evidence ≡ None → StatesCode known evidence
-own_states known (Words e words) sound read own = words_state known e words read.0 read.1 own
-own_states known (Cosets e basis representatives) sound read own = cosets_state known e basis representatives read.0 read.1 read.2 read.3 own
-own_states known (Partition e between classes) sound read own = partition_states known e between classes read.0 read.1 read.2 read.3 own
-own_states known (Product e pairs) sound read own = product_states known e pairs sound read.0 read.1 read.3 own
-own_states known (Build e step part other) sound read own = build_states known e step part other sound read.0 own
-own_states known (Dual d) sound read own = dual_states known (codes "dual") d read.0 (allows_none-plain d.entry.w d.y read.1) own
-own_states known (JohnsonDual d) sound read own = dual_states known (codes "jdual") d read.0 (allows_none-empty d.entry.w d.y read.2) own
-own_states known (Odd d m) sound read own = odd_states known (codes "odd") d m read.0 own
-own_states known (JohnsonLocal d) sound read own = local_states known (codes "jlocal") d read.0 own
-
-pub states_code : (known : List NamedCode) (evidence : Evidence) → AreSound known → IsRight known evidence → StatesCode known evidence
-states_code known evidence sound h = own_states known evidence sound h.sound (right-own known evidence h)
 
 -- what the document states of which a piece is made, and which was read as this
 pub record IsMaking (known : List NamedCode) (id document : List ℕ) (read : Result DocumentValue DocumentFault) (p : PieceValue) : Type 0 where
@@ -114,14 +70,6 @@ IsMade-right known p h =
     let m = making-of known p h in
     subst (λ (q : PieceValue). IsRight known q.evidence) m.piece
     (record { sound = (document_without_limit-right p.document m.stated m.is).0; faultless = m.faultless })
-
--- the code of words that are one is one
-pub over-sound : (known : List NamedCode) (evidence : Evidence) (words : Option (List ℕ)) → StatesCode known evidence → words_over known evidence ≡ words
-    → IfSome (option_map (code_at (stated_entry evidence)) words) IsSoundCode
-over-sound known evidence None states is = tt
-over-sound known evidence (Some words) states is =
-    let code = subst (λ (o : Option (List ℕ)). IfSome o (λ (ws : List ℕ). (1 ≤ length ws) × IsCodeOf (stated_entry evidence) ws)) is states.code in
-    code_at-sound (stated_entry evidence) words states.entry code.0 code.1
 
 -- and its code is one, where its kind has one
 pub IsMade-sound : (known : List NamedCode) (p : PieceValue) → AreSound known → IsMade known p → HasSoundCode (named_code known p)

@@ -3,9 +3,9 @@ use Rattle.std.proofs.Common.{◌≡◌, ℕ, suc, ◌+◌, ◌<◌, ◌≤◌, 
 use Rattle.std.specs.List.{position_or_len}
 use Rattle.std.specs.Str.{bytes_eq}
 use Rattle.std.proofs.lemmas.Bool.{ltb-true, ltb-false}
-use Rattle.ct_partitions.specs.Partition.{PartitionValue}
+use Rattle.ct_classes.specs.Partition.{PartitionValue}
 use Rattle.ct_kind.specs.Named.{NamedCode, partition_named}
-use Rattle.ct_pieces.specs.Kind.{kind_of}
+use Rattle.ct_files.specs.ByKind.{kind_of}
 use Rattle.ct_pieces.specs.Piece.{PieceValue, place_of}
 use Rattle.ct_pieces.specs.Codes.{named_code, codes_after, codes_of}
 use Rattle.ct_pieces.proofs.CodeLemmas.{is_named}

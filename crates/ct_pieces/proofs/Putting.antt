@@ -11,15 +11,18 @@ use Rattle.ct_kind.specs.KindParts.{stored_for}
 use Rattle.ct_kind.specs.declared.evidence.Evidence.{Evidence}
 use Rattle.ct_kind.specs.declared.fault.SubmitFault.{SubmitFault}
 use Rattle.ct_kind.specs.Named.{NamedCode}
-use Rattle.ct_pieces.specs.Kind.{kind_of, stated_entry}
+use Rattle.ct_files.specs.ByKind.{kind_of, stated_entry}
 use Rattle.ct_pieces.specs.Piece.{PieceValue, has_id, stored_by, stored_words}
 use Rattle.ct_pieces.specs.Codes.{codes_of}
 use Rattle.ct_pieces.specs.Standing.{AreStanding}
 use Rattle.ct_pieces.specs.Supports.{supports_of}
-use Rattle.ct_pieces.specs.Submission.{evidence_reason, made_unless, piece_of, made_of, if_stored, stored_beside, submitted}
-use Rattle.ct_pieces.specs.Inside.Checks.{IsCheck, IsRefused}
-use Rattle.ct_pieces.specs.Inside.Kept.{kept_over, kept_codes, AreKept}
-use Rattle.ct_pieces.specs.declared.kinds.Checked.{Checked}
+use Rattle.ct_files.specs.ByKind.{evidence_reason}
+use Rattle.ct_pieces.specs.Submission.{made_unless, piece_of, made_of, if_stored, stored_beside, submitted}
+use Rattle.ct_files.specs.Checked.{IsCheck}
+use Rattle.ct_pieces.specs.Inside.Checks.{IsRefused}
+use Rattle.ct_files.specs.ByKind.{kept_over}
+use Rattle.ct_pieces.specs.Inside.Kept.{kept_codes, AreKept}
+use Rattle.ct_files.specs.declared.checked.Checked.{Checked}
 use Rattle.ct_pieces.specs.declared.limits.TheConstants.{MAX_PIECES, MAX_STORED}
 use Rattle.ct_pieces.proofs.Admitting.{made_of-read}
 use Rattle.ct_pieces.proofs.KeptLemmas.{kept_codes-push, kept-push}

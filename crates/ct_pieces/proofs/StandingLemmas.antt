@@ -17,7 +17,7 @@ use Rattle.ct_fields.specs.declared.fault.DocumentFault.{DocumentFault}
 use Rattle.ct_files.specs.Document.{DocumentValue, document_without_limit, document_read_of}
 use Rattle.ct_files.proofs.Documents.{document_without_limit-right, document_read_of-within, document_read_of-without_limit}
 use Rattle.ct_kind.specs.Named.{NamedCode}
-use Rattle.ct_pieces.specs.Kind.{stated_entry, words_over}
+use Rattle.ct_files.specs.ByKind.{stated_entry, words_over}
 use Rattle.ct_pieces.specs.Piece.{PieceValue, has_id, stored_by, stored_words, first_user}
 use Rattle.ct_pieces.specs.Codes.{named_code, codes_of}
 use Rattle.ct_pieces.specs.Submission.{piece_from, stored_beside, unless_full, submitted, with_piece}
@@ -30,7 +30,8 @@ use Rattle.ct_pieces.specs.declared.fault.WithdrawFault.{WithdrawFault}
 use Rattle.ct_pieces.specs.declared.fault.WithdrawFault.TheVariants as withdraw
 use Rattle.ct_pieces.proofs.CodeLemmas.{AreMade-append, AreMade-front}
 use Rattle.ct_kind.specs.Sound.{AreSound, HasSoundCode}
-use Rattle.ct_pieces.proofs.MakingLemmas.{IsRight, making, making-of, states_code, IsMade-sound}
+use Rattle.ct_files.proofs.StatedByKind.{IsRight, states_code}
+use Rattle.ct_pieces.proofs.MakingLemmas.{making, making-of, IsMade-sound}
 use Rattle.ct_pieces.proofs.LeavingLemmas.{other_than, ArePassed, passing, AreMade-passing, ArePassed-others}
 
 -- a piece that is made has the id and the document that it is made of

@@ -19,12 +19,14 @@ use Rattle.ct_pieces.specs.Standing.{AreStanding, IsMade, AreMade}
 use Rattle.ct_pieces.specs.Supports.{support_of, supports_of}
 use Rattle.ct_pieces.specs.Withdrawal.{without, withdrawn, unless_used}
 use Rattle.ct_pieces.specs.declared.fault.WithdrawFault.TheVariants as fault
-use Rattle.ct_pieces.specs.Inside.Kept.{kept_over, kept_codes}
+use Rattle.ct_files.specs.ByKind.{kept_over}
+use Rattle.ct_pieces.specs.Inside.Kept.{kept_codes}
 use Rattle.ct_pieces.specs.Piece.{place_of}
 use Rattle.ct_pieces.proofs.CodeLemmas.{is_named, AreMade-front, AreMade-back}
 use Rattle.ct_kind.specs.Sound.{AreSound, HasSoundCode}
 use Rattle.ct_kind.proofs.Stating.{option_map-none}
-use Rattle.ct_pieces.proofs.MakingLemmas.{IsRight, making-of, states_code, IsMade-sound, codes_after-sound}
+use Rattle.ct_files.proofs.StatedByKind.{IsRight, states_code}
+use Rattle.ct_pieces.proofs.MakingLemmas.{making-of, IsMade-sound, codes_after-sound}
 use Rattle.ct_pieces.proofs.LeavingLemmas.{kept-remove}
 use Rattle.ct_pieces.proofs.StandingLemmas.{piece_from-made, AreStanding-without, AreStanding-front}
 use Rattle.ct_pieces.proofs.KeptLemmas.{length-kept_codes, kept_codes-push}

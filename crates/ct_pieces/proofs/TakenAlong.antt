@@ -4,7 +4,7 @@ use Rattle.std.specs.Prelude.{slice_get, Result}
 use Rattle.std.specs.Str.{bytes_eq}
 use Rattle.std.proofs.lemmas.Option.{none-some, same_Some}
 use Rattle.std.proofs.lemmas.Slice.Eq.{bytes_eq-Decides}
-use Rattle.ct_pieces.specs.Kind.{parts_of, names}
+use Rattle.ct_files.specs.ByKind.{parts_of, names}
 use Rattle.ct_pieces.specs.Piece.{PieceValue, has_id}
 use Rattle.ct_pieces.specs.Standing.{AreStanding}
 use Rattle.ct_pieces.specs.Withdrawal.{IsTakenAlong, names_any, ids_along, taken_along, is_among, without_all, withdrawn_all, left_by}

@@ -2,15 +2,9 @@
 use Rattle.std.specs.Prelude.{ℕ, List, [], ◌∷◌, ◌++◌, Option, option_map, slice_get}
 use Rattle.std.specs.Option.{option_flatten}
 use Rattle.ct_words.specs.Code.{CodeValue}
-use Rattle.ct_kind.specs.declared.evidence.Evidence.{Evidence}
-use Rattle.ct_kind.specs.Ascending.{code_at}
 use Rattle.ct_kind.specs.Named.{NamedCode}
-use Rattle.ct_pieces.specs.Kind.{kind_of, stated_entry, words_over}
+use Rattle.ct_files.specs.ByKind.{kind_of, code_over}
 use Rattle.ct_pieces.specs.Piece.{PieceValue}
-
--- the code that evidence states over these codes, where its kind has one
-abbrev pub code_over : List NamedCode → Evidence → Option CodeValue
-code_over known evidence = option_map (code_at (stated_entry evidence)) (words_over known evidence)
 
 -- the code of a piece over these codes and the partition that it is, with its id
 abbrev pub named_code : List NamedCode → PieceValue → NamedCode

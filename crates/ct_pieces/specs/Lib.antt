@@ -1,4 +1,3 @@
-pub mod Kind
 pub mod Piece
 pub mod Codes
 pub mod Submission

@@ -5,7 +5,7 @@ use Rattle.std.specs.Str.{bytes_eq}
 use Rattle.ct_words.specs.declared.entry.Entry.{Entry}
 use Rattle.ct_kind.specs.declared.evidence.Evidence.{Evidence}
 use Rattle.ct_kind.specs.KindParts.{stored_for}
-use Rattle.ct_pieces.specs.Kind.{kind_of, names}
+use Rattle.ct_files.specs.ByKind.{kind_of, names}
 
 -- a piece: its id, its document, the evidence that the document states and what it cites, the entry that it is about, and its size, where it has
 -- one: the number of words of its code, or of the classes of a partition

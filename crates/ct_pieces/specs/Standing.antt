@@ -4,7 +4,7 @@ use Rattle.ct_words.specs.Code.{IsTrueLower}
 use Rattle.ct_names.specs.Id.{is_id}
 use Rattle.ct_files.specs.Document.{document_without_limit}
 use Rattle.ct_kind.specs.Named.{NamedCode}
-use Rattle.ct_pieces.specs.Kind.{has_code}
+use Rattle.ct_files.specs.ByKind.{has_code}
 use Rattle.ct_pieces.specs.Piece.{PieceValue, stored_words}
 use Rattle.ct_pieces.specs.Codes.{named_code}
 use Rattle.ct_pieces.specs.Submission.{piece_from}

@@ -1,21 +1,15 @@
 -- What a submission makes over the pieces that stand: a piece, or the first reason why it makes none.
 use Rattle.std.specs.Prelude.{◌≡◌, ◌≢◌, ◌<◌, ◌≤◌, ℕ, ◌+◌, Bool, nat_le, if◌then◌else◌, List, [], ◌∷◌, ◌++◌, length, map, All, Contains, Option, Some, None, Result, Ok, Err, IfSome}
 use Rattle.ct_words.specs.Code.{IsCodeOf}
-use Rattle.ct_kind.specs.declared.evidence.Evidence.{Evidence}
 use Rattle.ct_fields.specs.declared.fault.DocumentFault.{DocumentFault}
 use Rattle.ct_files.specs.Document.{DocumentValue, document_read_of}
 use Rattle.ct_kind.specs.Named.{NamedCode}
-use Rattle.ct_kind.specs.KindParts.{kind_reason}
-use Rattle.ct_pieces.specs.Kind.{kind_of, stated_entry, parts_of, words_over, size_over, IsChecked}
+use Rattle.ct_files.specs.ByKind.{stated_entry, parts_of, words_over, size_over, evidence_reason, IsChecked}
 use Rattle.ct_pieces.specs.Piece.{PieceValue, has_id, stored_by, stored_words}
 use Rattle.ct_pieces.specs.Codes.{codes_of}
 use Rattle.ct_pieces.specs.declared.limits.TheConstants.{MAX_PIECES, MAX_STORED}
 use Rattle.ct_kind.specs.declared.fault.SubmitFault.{SubmitFault}
 use Rattle.ct_kind.specs.declared.fault.SubmitFault.TheVariants as fault
-
--- the first reason against evidence over these pieces: the first named part that none of them is, or else its kind's own
-abbrev pub evidence_reason : List NamedCode → Evidence → Option SubmitFault
-evidence_reason known evidence = kind_reason (kind_of evidence) known
 
 -- the piece of what a document states: its evidence with what it cites, and its size, where it has one
 abbrev pub piece_of : List NamedCode → List ℕ → List ℕ → DocumentValue → PieceValue

@@ -1,7 +1,7 @@
 -- What the pieces that stand give to the table.
 use Rattle.std.specs.Prelude.{List, map}
 use Rattle.ct_rule_parts.specs.declared.support.Support.{Support}
-use Rattle.ct_pieces.specs.Kind.{kind_of}
+use Rattle.ct_files.specs.ByKind.{kind_of}
 use Rattle.ct_pieces.specs.Piece.{PieceValue}
 
 -- what a piece gives, by its kind: the size of its code at its entry, the bound of its dual, or nothing

@@ -6,7 +6,7 @@ ghost use Rattle.std.specs.Option.{option_to_list};
 ghost use Rattle.std.specs.Str.{bytes_eq};
 ghost use Rattle.ct_pieces.specs.Inside.Names.{has_name};
 ghost use Rattle.ct_pieces.specs.Inside.Unmarked.{unmarked};
-ghost use Rattle.ct_pieces.specs.Kind.{parts_of};
+ghost use Rattle.ct_files.specs.ByKind.{parts_of};
 ghost use Rattle.ct_pieces.specs.Piece.{stored_words};
 ghost use Rattle.ct_pieces.specs.Standing.{AreStanding};
 ghost use Rattle.ct_pieces.specs.Withdrawal.{marks_along};

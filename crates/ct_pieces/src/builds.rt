@@ -7,40 +7,21 @@ ghost use Rattle.ct_build_files.specs.BuildKind.{built_over, step_reason};
 ghost use Rattle.ct_kind.specs.Ascending.{code_at};
 ghost use Rattle.ct_kind.specs.declared.evidence.Evidence.TheVariants.{Build};
 ghost use Rattle.ct_kind.specs.Named.{code_named};
-ghost use Rattle.ct_pieces.specs.Codes.{code_over, codes_of};
-ghost use Rattle.ct_pieces.specs.Kind.{own_reason};
+ghost use Rattle.ct_files.specs.ByKind.{code_over};
+ghost use Rattle.ct_pieces.specs.Codes.{codes_of};
+ghost use Rattle.ct_files.specs.ByKind.{own_reason};
 ghost use Rattle.ct_pieces.specs.Standing.{AreMade};
-ghost use Rattle.ct_pieces.specs.Inside.Kept.{is_kept, kept_codes, AreKept, code_there, code_found, other_place};
+ghost use Rattle.ct_files.specs.ByKind.{is_kept};
+ghost use Rattle.ct_pieces.specs.Inside.Kept.{kept_codes, AreKept, code_there, code_found, other_place};
 
 use crate::kept::{find_code, pieces_before, place_of};
 use crate::piece::Piece;
 use ct_build_files::build_kind::{self, StatedBuild};
-use ct_files::Evidence;
+use ct_files::build_of;
 use ct_kind::{Found, SubmitFault};
 use ct_names::Id;
 use ct_words::Code;
 use std::alloc::{AllocError, Global};
-
-/// The build that the evidence is, where it is one.
-pub(crate) fn build_of<'a>(evidence: &'a Evidence) -> Option<StatedBuild<'a>>
-    ensures some { IfSome result (λ build. evidence.now ≡ Build build.entry build.step.now build.part build.other) }
-    ensures none { IfNone result (is_kept evidence.now ≡ false) }
-{
-    match evidence {
-        Evidence::Build {
-            entry,
-            step,
-            part,
-            other,
-        } => Some(StatedBuild {
-            entry: *entry,
-            step,
-            part: *part,
-            other: *other,
-        }),
-        _ => None,
-    }
-}
 
 /// The place of the piece of the other id, where one is named and a piece has it.
 fn other_place(pieces: &[Piece], other: Option<Id>) -> Option<usize>

@@ -6,8 +6,9 @@ ghost use Rattle.ct_pieces.specs.Standing.{AreMade};
 ghost use Rattle.ct_pieces.specs.Inside.Kept.{kept_codes, code_there};
 ghost use Rattle.ct_pieces.specs.Piece.{place_of};
 
-use crate::kinds::listed_code;
 use crate::piece::Piece;
+use crate::standing::Standing;
+use ct_files::listed_code;
 use ct_kind::Found;
 use ct_names::Id;
 use ct_words::Code;
@@ -46,7 +47,7 @@ pub(crate) fn find_code<'a>(
     }
     let made = listed_code(
         alloc,
-        pieces_before(pieces, place),
+        &Standing::new(pieces_before(pieces, place)),
         pieces[place].evidence(),
     )?;
     Ok(Found::made(made))
@@ -71,7 +72,7 @@ pub(crate) fn code_at_place(
     }
     let made = listed_code(
         alloc,
-        pieces_before(pieces, place),
+        &Standing::new(pieces_before(pieces, place)),
         pieces[place].evidence(),
     )?;
     let Some(code) = made else { unreachable!() };

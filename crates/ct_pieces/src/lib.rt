@@ -1,5 +1,5 @@
-//! The pieces of evidence that were accepted and not withdrawn, how a piece comes and goes, and the texts of refusals; no table
-//! of what they give is kept.
+//! The pieces of evidence that were accepted and not withdrawn, and how a piece comes and goes; no table of what they give is
+//! kept.
 #![tactic(auto)]
 
 mod along;
@@ -22,4 +22,4 @@ pub use limits::{MAX_PIECES, MAX_STORED};
 pub use new_piece::NewPiece;
 pub use piece::Piece;
 pub use pieces::Pieces;
-pub use text::{put_size, submit_refusal, withdraw_refusal};
+pub use text::{put_size, withdraw_refusal};

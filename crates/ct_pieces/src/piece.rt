@@ -4,12 +4,11 @@ ghost use Rattle.std.specs.Prelude.{◌≡◌, ◌≤◌, ◌++◌, All, IsTrue,
 ghost use Rattle.ct_fields.specs.declared.cites.TheConstants.{MAX_CITES};
 ghost use Rattle.ct_names.specs.Cite.{is_cite};
 ghost use Rattle.ct_files.specs.Evidence.{IsSound};
-ghost use Rattle.ct_pieces.specs.Kind.{names};
+ghost use Rattle.ct_files.specs.ByKind.{names};
 ghost use Rattle.ct_pieces.specs.Text.{piece_text};
 
-use crate::kinds::names;
 use crate::text::put_piece;
-use ct_files::{Document, Evidence};
+use ct_files::{Document, Evidence, names};
 use ct_names::{Cite, Id};
 use ct_text::Text;
 use ct_words::Entry;

@@ -9,10 +9,10 @@ ghost use Rattle.ct_pieces.specs.Codes.{codes_of, code_of_place};
 ghost use Rattle.ct_pieces.specs.Standing.{AreMade};
 
 use crate::kept::place_of;
-use crate::kinds::{kind_of, partition_of};
 use crate::piece::Piece;
 use ct_build::Shape;
 use ct_build_files::Codes;
+use ct_files::{kind_of, partition_of};
 use ct_kind::{Partitions, StatedPartition};
 use ct_names::Id;
 use std::marker::Model;

@@ -8,7 +8,7 @@ use Rattle.ct_kind.specs.declared.evidence.Evidence.{Evidence}
 use Rattle.ct_files.specs.Document.{DocumentValue, without_cites}
 use Rattle.ct_files.specs.Evidence.{IsSound}
 use Rattle.ct_kind.specs.Named.{NamedCode}
-use Rattle.ct_pieces.specs.Kind.{words_over}
+use Rattle.ct_files.specs.ByKind.{words_over}
 use Rattle.ct_pieces.specs.Piece.{PieceValue, has_id, stored_words, first_user}
 use Rattle.ct_pieces.specs.Codes.{named_code, codes_of}
 use Rattle.ct_pieces.specs.Submission.{made_of, stored_beside, with_piece}
@@ -19,7 +19,8 @@ use Rattle.ct_pieces.specs.declared.fault.WithdrawFault.{WithdrawFault}
 use Rattle.ct_pieces.specs.declared.fault.WithdrawFault.TheVariants as withdraw
 use Rattle.ct_pieces.proofs.CodeLemmas.{codes_of-push}
 use Rattle.ct_kind.specs.Sound.{AreSound, HasSoundCode}
-use Rattle.ct_pieces.proofs.MakingLemmas.{IsRight, making, states_code, over-sound}
+use Rattle.ct_files.proofs.StatedByKind.{IsRight, states_code, over-sound}
+use Rattle.ct_pieces.proofs.MakingLemmas.{making}
 use Rattle.ct_pieces.proofs.LeavingLemmas.{other_than, ArePassed-others, codes-passing}
 use Rattle.ct_pieces.proofs.SupportLemmas.{supports-push}
 use Rattle.ct_pieces.proofs.StandingLemmas.{unless_full-ok, stored_beside-ok}

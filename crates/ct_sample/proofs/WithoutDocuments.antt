@@ -10,10 +10,11 @@ use Rattle.ct_kind.specs.declared.evidence.Evidence.{Evidence}
 use Rattle.ct_files.specs.Document.{DocumentValue, without_cites, document_read_of}
 use Rattle.ct_rule_parts.specs.declared.support.Support.{Support}
 use Rattle.ct_kind.specs.Named.{NamedCode}
-use Rattle.ct_pieces.specs.Kind.{names}
+use Rattle.ct_files.specs.ByKind.{names}
 use Rattle.ct_pieces.specs.Piece.{PieceValue, has_id, stored_by, stored_words, first_user}
 use Rattle.ct_pieces.specs.Codes.{named_code, codes_after, codes_of}
-use Rattle.ct_pieces.specs.Submission.{evidence_reason, piece_of, made_unless, made_of, stored_beside, unless_full, submitted}
+use Rattle.ct_files.specs.ByKind.{evidence_reason}
+use Rattle.ct_pieces.specs.Submission.{piece_of, made_unless, made_of, stored_beside, unless_full, submitted}
 use Rattle.ct_pieces.specs.Supports.{support_of, supports_of}
 use Rattle.ct_pieces.specs.Withdrawal.{without, unless_used, withdrawn}
 use Rattle.ct_pieces.specs.declared.limits.TheConstants.{MAX_PIECES, MAX_STORED}

@@ -1,7 +1,7 @@
 -- The texts of verdicts.
 use Rattle.std.specs.Prelude.{ℕ, List, ◌++◌, codes}
 use Rattle.ct_text.specs.Number.{spaced}
-use Rattle.ct_pieces.specs.Text.{submit_fault_text}
+use Rattle.ct_files.specs.Refusal.{submit_fault_text}
 use Rattle.ct_verify.specs.declared.verdict.Why.{Why}
 use Rattle.ct_verify.specs.declared.verdict.Why.TheVariants.{Form, Rule, Premise, Value, Evidence}
 use Rattle.ct_verify.specs.declared.verdict.Verdict.{Verdict}

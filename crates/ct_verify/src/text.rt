@@ -4,7 +4,7 @@ ghost use Rattle.std.specs.Prelude.{◌≡◌, ◌++◌, OnOk, IfOk};
 ghost use Rattle.ct_verify.specs.Text.{why_text, verdict_text};
 
 use crate::verdict::{Verdict, Why};
-use ct_pieces::submit_refusal;
+use ct_files::submit_refusal;
 use ct_text::put_spaced;
 use std::alloc::{AllocError, Global};
 

@@ -1,7 +1,7 @@
 -- Partitions of words of length 4 whose products are known.
 use Rattle.std.specs.Prelude.{[], ◌∷◌}
 use Rattle.ct_words.specs.Entry.{unrestricted, constant_weight}
-use Rattle.ct_partitions.specs.Partition.{PartitionValue}
+use Rattle.ct_classes.specs.Partition.{PartitionValue}
 
 -- the words of even weight in pairs of complements
 abbrev pub even_pairs : PartitionValue

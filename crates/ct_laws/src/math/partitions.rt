@@ -4,9 +4,9 @@ ghost use Rattle.std.specs.Prelude.{◌≡◌, ◌↔◌, ℕ, ◌^◌, ◌<◌,
 ghost use Rattle.ct_words.specs.Code.{IsCode};
 ghost use Rattle.ct_words.specs.declared.entry.Entry.{Entry};
 ghost use Rattle.ct_words.specs.declared.fault.TheConstants.{MAX_WORDS};
-ghost use Rattle.ct_partitions.specs.declared.fault.TheConstants.{MAX_CLASSES};
-ghost use Rattle.ct_partitions.specs.declared.fault.PartitionFault.TheVariants.{Size, Weight, Repeated, Close};
-ghost use Rattle.ct_partitions.specs.Partition.{words_of_classes, IsPartition};
+ghost use Rattle.ct_classes.specs.declared.fault.TheConstants.{MAX_CLASSES};
+ghost use Rattle.ct_classes.specs.declared.fault.PartitionFault.TheVariants.{Size, Weight, Repeated, Close};
+ghost use Rattle.ct_classes.specs.Partition.{words_of_classes, IsPartition};
 ghost use Rattle.ct_laws.specs.Mathematics.KnownPartitions.{even_pairs, two_pairs, near_pairs, no_ones, two_ones, four_ones};
 ghost use Rattle.ct_partitions.specs.Product.{Factors, AreFactors, AreSound, product, product_size, product_distance};
 ghost use Rattle.ct_partitions.specs.Check.{partition_fault, need, distance_at};

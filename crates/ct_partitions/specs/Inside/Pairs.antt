@@ -1,7 +1,7 @@
 -- The parts of a product's distance and size.
 use Rattle.std.specs.Prelude.{ℕ, ◌+◌, ◌-◌, ◌*◌, min, List, length, map, fold, drop, sum_by, slice_index_or}
 use Rattle.std.specs.List.{zip}
-use Rattle.ct_partitions.specs.Partition.{PartitionValue}
+use Rattle.ct_classes.specs.Partition.{PartitionValue}
 use Rattle.ct_partitions.specs.Product.{Factors, weight_of, pair_distance, weight_gap, no_partition}
 
 -- no pair: what stands at no place

@@ -1,24 +1,12 @@
 -- The codes that are kept beside pieces, once they are made: those of builds.
-use Rattle.std.specs.Prelude.{◌≡◌, ℕ, Bool, if◌then◌else◌, List, [], ◌∷◌, ◌++◌, Option, None, Some, IfSome, slice_index_or}
+use Rattle.std.specs.Prelude.{ℕ, List, [], ◌∷◌, ◌++◌, Option, None, Some, slice_index_or}
 use Rattle.std.specs.List.{AllZip}
 use Rattle.ct_words.specs.Code.{CodeValue}
-use Rattle.ct_kind.specs.declared.evidence.Evidence.{Evidence}
 use Rattle.ct_kind.specs.Named.{NamedCode}
-use Rattle.ct_pieces.specs.Kind.{kind_of}
+use Rattle.ct_files.specs.ByKind.{kept_over}
+use Rattle.ct_files.specs.Checked.{IsKept}
 use Rattle.ct_pieces.specs.Piece.{PieceValue, place_of}
-use Rattle.ct_pieces.specs.Codes.{code_over, named_code, code_of_place}
-
--- whether the words of the code of such evidence are stored
-abbrev pub is_kept : Evidence → Bool
-is_kept evidence = (kind_of evidence).is_stored
-
--- the code that is kept beside a piece of the evidence, once it is made: the one that it states over these codes, where its words are stored
-abbrev pub kept_over : List NamedCode → Evidence → Option CodeValue
-kept_over known evidence = if is_kept evidence then code_over known evidence else None
-
--- the code that is made anew where it is needed: the one that evidence states over these codes, whose words are not stored
-abbrev pub listed_code : List NamedCode → Evidence → Option CodeValue
-listed_code known evidence = if is_kept evidence then None else code_over known evidence
+use Rattle.ct_pieces.specs.Codes.{named_code, code_of_place}
 
 -- the codes that are kept, once they are made, beside pieces that stand after others, whose codes are known
 abbrev pub kept_after : List NamedCode → List PieceValue → List (Option CodeValue)
@@ -28,10 +16,6 @@ kept_after known (p ∷ ps) = kept_over known p.evidence ∷ kept_after (known +
 -- the codes that are kept, once they are made, beside the pieces, each at the place of its piece
 abbrev pub kept_codes : List PieceValue → List (Option CodeValue)
 kept_codes pieces = kept_after [] pieces
-
--- what is kept where this code is, once it is made: nothing, or exactly this code
-abbrev pub IsKept : Option CodeValue → Option CodeValue → Type 0
-IsKept kept code = IfSome kept (λ k. code ≡ Some k)
 
 -- so it is at each place
 abbrev pub AreKept : List (Option CodeValue) → List (Option CodeValue) → Type 0

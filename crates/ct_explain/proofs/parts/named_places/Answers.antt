@@ -1,5 +1,5 @@
 use Rattle.std.proofs.Common.{ℕ, ◌++◌, ◌∷◌, [], List, ap, sym, ◌∙◌}
-use Rattle.ct_pieces.specs.Kind.{names}
+use Rattle.ct_files.specs.ByKind.{names}
 use Rattle.ct_pieces.specs.Piece.{PieceValue}
 use Rattle.ct_explain.proofs.PartPlaces.{place_found, place_passed}
 use Rattle.ct_explain.proofs.parts.named_places.Goals as goal

@@ -1,5 +1,5 @@
 use Rattle.std.proofs.Common.{◌≡◌, take}
-use Rattle.ct_pieces.specs.Kind.{names}
+use Rattle.ct_files.specs.ByKind.{names}
 use Rattle.ct_explain.specs.Parts.{places_where}
 use Rattle.ct_explain.proofs.parts.named_places.Given as goal
 

@@ -1,5 +1,5 @@
 use Rattle.std.proofs.Common.{◌∙◌, ap, sym}
-use Rattle.ct_pieces.specs.Kind.{parts_of}
+use Rattle.ct_files.specs.ByKind.{parts_of}
 use Rattle.ct_explain.proofs.PartPlaces.{no_places}
 use Rattle.ct_explain.proofs.parts.part_places.Goals as goal
 

@@ -1,5 +1,5 @@
 use Rattle.std.proofs.Common.{◌^◌, ◌<◌, All, take}
-use Rattle.ct_partitions.specs.Partition.{word_lists, words_of_classes}
+use Rattle.ct_classes.specs.Partition.{word_lists, words_of_classes}
 use Rattle.ct_math_tests.proofs.products.are_of_length.Given as goal
 
 abbrev pub invariant-loop-class : goal.invariant-loop-class

@@ -1,5 +1,5 @@
 use Rattle.std.proofs.Common.{ℕ, List, Result, Ok, sym, ap, ◌∙◌}
-use Rattle.ct_partitions.specs.Partition.{word_lists}
+use Rattle.ct_classes.specs.Partition.{word_lists}
 use Rattle.ct_kind.specs.declared.evidence.Evidence.TheVariants.{Partition}
 use Rattle.ct_fields.specs.Steps.{◌>>=◌, ◌>>◌}
 use Rattle.ct_fields.specs.declared.fault.DocumentFault.{DocumentFault}

@@ -1,6 +1,6 @@
 use Rattle.std.proofs.Common.{◌≡◌, ℕ, List, ◌++◌, append_assoc, codes, sym, ap, ◌∙◌}
 use Rattle.std.proofs.lemmas.Result.{on_ok_weaker}
-use Rattle.ct_partitions.specs.declared.fault.PartitionFault.{PartitionFault}
+use Rattle.ct_classes.specs.declared.fault.PartitionFault.{PartitionFault}
 use Rattle.ct_text.specs.Number.{spaced}
 use Rattle.ct_text.proofs.GrowingTexts.{puts-four}
 use Rattle.ct_partition_files.specs.PartitionFaultText.{partition_fault_text}

@@ -1,7 +1,7 @@
 use Rattle.std.proofs.Common.{Option, Some, sym, ap, subst, ◌∙◌}
 use Rattle.std.specs.Prelude.{IfSome, IsSome}
 use Rattle.std.proofs.lemmas.Result.{IfOk-weaker}
-use Rattle.ct_partitions.specs.Partition.{PartitionValue, IsSoundPartition}
+use Rattle.ct_classes.specs.Partition.{PartitionValue, IsSoundPartition}
 use Rattle.ct_kind.proofs.NamedLemmas.{partition-sound}
 use Rattle.ct_partition_files.proofs.product_kind.factor.Goals as goal
 

@@ -1,6 +1,6 @@
 use Rattle.std.proofs.Common.{pos, ap, ◌∙◌}
 use Rattle.toml.specs.Data.{integer, Members}
-use Rattle.ct_partitions.specs.Partition.{word_lists}
+use Rattle.ct_classes.specs.Partition.{word_lists}
 use Rattle.ct_fields.specs.Written.{put, put_weight}
 use Rattle.ct_fields.specs.declared.field.FieldName.TheVariants as name
 use Rattle.ct_partition_files.specs.Written.{class_list}

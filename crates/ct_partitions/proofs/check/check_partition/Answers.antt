@@ -1,9 +1,9 @@
 use Rattle.std.proofs.Common.{◌≡◌, ap, sym, ◌∙◌, Some, Result, Ok, Err}
 use Rattle.std.specs.Prelude.{◌≢◌, IfErr}
 use Rattle.std.specs.Result.{IsErrAnd}
-use Rattle.ct_partitions.specs.declared.fault.PartitionFault.{PartitionFault}
-use Rattle.ct_partitions.specs.declared.fault.PartitionFault.TheVariants.{Memory}
-use Rattle.ct_partitions.specs.Partition.{word_lists}
+use Rattle.ct_classes.specs.declared.fault.PartitionFault.{PartitionFault}
+use Rattle.ct_classes.specs.declared.fault.PartitionFault.TheVariants.{Memory}
+use Rattle.ct_classes.specs.Partition.{word_lists}
 use Rattle.ct_partitions.specs.Check.{partition_fault}
 use Rattle.ct_partitions.proofs.PartitionFaults.{sound_from_check}
 use Rattle.ct_partitions.proofs.check.check_partition.Goals as goal

@@ -1,5 +1,5 @@
 use Rattle.std.proofs.Common.{◌≡◌, ◌+◌, drop}
-use Rattle.ct_partitions.specs.Partition.{word_lists}
+use Rattle.ct_classes.specs.Partition.{word_lists}
 use Rattle.ct_partitions.specs.Check.{class_at}
 use Rattle.ct_partitions.proofs.check.class_of.Given as goal
 

@@ -1,7 +1,7 @@
 -- One more class.
 use Rattle.std.proofs.Common.{ℕ, List, ◌++◌, Vec, Global, ap, ap₂, sym, ◌∙◌}
 use Rattle.std.proofs.lemmas.List.{take_all}
-use Rattle.ct_partitions.specs.Partition.{word_lists, words_of_classes}
+use Rattle.ct_classes.specs.Partition.{word_lists, words_of_classes}
 use Rattle.ct_partitions.proofs.ClassLemmas.{lists_more}
 use Rattle.ct_partitions.proofs.check.joined.Goals as goal
 

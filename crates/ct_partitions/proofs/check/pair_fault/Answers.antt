@@ -1,5 +1,5 @@
 use Rattle.std.proofs.Common.{if◌then◌else◌, ap, sym, ◌∙◌, lt_trans, eq-eqb, ne_eqb}
-use Rattle.ct_partitions.specs.Partition.{word_lists}
+use Rattle.ct_classes.specs.Partition.{word_lists}
 use Rattle.ct_partitions.specs.Check.{class_at}
 use Rattle.ct_partitions.proofs.PairFaults.{no_pair_fault, repeated_pair_fault, close_pair_fault}
 use Rattle.ct_partitions.proofs.check.pair_fault.Goals as goal

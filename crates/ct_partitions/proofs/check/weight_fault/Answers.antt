@@ -1,7 +1,7 @@
 use Rattle.std.proofs.Common.{◌^◌, ◌<◌, option_map, ap, sym, ◌∙◌}
 use Rattle.std.proofs.Math.Facts.{Fits-lt-pow}
 use Rattle.std.proofs.lemmas.List.Elements.{All-from_get_or}
-use Rattle.ct_partitions.specs.declared.fault.PartitionFault.TheVariants.{Weight}
+use Rattle.ct_classes.specs.declared.fault.PartitionFault.TheVariants.{Weight}
 use Rattle.ct_partitions.specs.Check.{weight_fault}
 use Rattle.ct_partitions.proofs.PairFaults.{other_weight_any_length}
 use Rattle.ct_partitions.proofs.check.weight_fault.Goals as goal

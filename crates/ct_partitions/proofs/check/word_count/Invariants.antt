@@ -1,5 +1,5 @@
 use Rattle.std.proofs.Common.{◌≡◌, take, length}
-use Rattle.ct_partitions.specs.Partition.{word_lists, words_of_classes}
+use Rattle.ct_classes.specs.Partition.{word_lists, words_of_classes}
 use Rattle.ct_partitions.specs.Check.{counted}
 use Rattle.ct_partitions.proofs.check.word_count.Given as goal
 

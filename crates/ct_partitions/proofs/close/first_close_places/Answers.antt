@@ -6,7 +6,7 @@ use Rattle.ct_words.specs.Word.{distance}
 use Rattle.ct_words.specs.PairProducts.{all_places}
 use Rattle.ct_words.specs.Pairs.{least_pair}
 use Rattle.ct_words.proofs.PairLemmas.{least_pair_same, IsLeastPair-from}
-use Rattle.ct_partitions.specs.Partition.{word_lists, words_of_classes}
+use Rattle.ct_classes.specs.Partition.{word_lists, words_of_classes}
 use Rattle.ct_partitions.specs.Check.{is_close}
 use Rattle.ct_partitions.specs.Inside.Rows.{IsLesser}
 use Rattle.ct_partitions.proofs.ClassLemmas.{lists_more, words_up_to}

@@ -1,6 +1,6 @@
 use Rattle.std.proofs.Common.{◌≡◌, ℕ, ◌<◌, true, nat_lt, length, take}
 use Rattle.ct_words.specs.Word.{distance}
-use Rattle.ct_partitions.specs.Partition.{word_lists, words_of_classes}
+use Rattle.ct_classes.specs.Partition.{word_lists, words_of_classes}
 use Rattle.ct_partitions.specs.Check.{is_close}
 use Rattle.ct_partitions.proofs.LeastLemmas.{at_places}
 use Rattle.ct_partitions.proofs.close.first_close_places.Given as goal

@@ -3,7 +3,7 @@ use Rattle.std.specs.List.{list_any}
 use Rattle.ct_kind.specs.declared.evidence.Evidence.{Evidence}
 use Rattle.ct_partition_files.specs.ProductKind.{Ids}
 use Rattle.ct_pieces.specs.Inside.Names.{has_name}
-use Rattle.ct_pieces.specs.Kind.{parts_of}
+use Rattle.ct_files.specs.ByKind.{parts_of}
 use Rattle.ct_pieces.proofs.AlongPass.{pairs_any}
 use Rattle.ct_pieces.proofs.along.has_part.Goals as goal
 

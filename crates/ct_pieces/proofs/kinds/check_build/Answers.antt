@@ -6,13 +6,14 @@ use Rattle.ct_words.specs.Code.{CodeValue}
 use Rattle.ct_kind.specs.KindParts.{support_from}
 use Rattle.ct_kind.specs.Named.{code_named, first_missing}
 use Rattle.ct_kind.specs.declared.evidence.Evidence.TheVariants.{Build}
-use Rattle.ct_pieces.specs.Kind.{own_reason, size_over}
+use Rattle.ct_files.specs.ByKind.{own_reason, size_over}
 use Rattle.ct_pieces.specs.Piece.{PieceValue}
-use Rattle.ct_pieces.specs.Codes.{code_over, codes_of}
-use Rattle.ct_pieces.specs.Submission.{evidence_reason}
-use Rattle.ct_pieces.specs.Inside.Kept.{IsKept}
+use Rattle.ct_files.specs.ByKind.{code_over}
+use Rattle.ct_pieces.specs.Codes.{codes_of}
+use Rattle.ct_files.specs.ByKind.{evidence_reason}
+use Rattle.ct_files.specs.Checked.{IsKept}
 use Rattle.ct_pieces.proofs.BuildPlaces.{code-sized, reason-own}
-use Rattle.ct_pieces.proofs.Checking.{check-sized, check-refused}
+use Rattle.ct_files.proofs.Checking.{check-sized, check-refused}
 use Rattle.ct_pieces.proofs.kinds.check_build.Goals as goal
 
 pub returns-in_err-told-clause-check : goal.returns-in_err-told-clause-check

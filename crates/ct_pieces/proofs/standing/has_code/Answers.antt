@@ -1,5 +1,5 @@
 use Rattle.std.proofs.Common.{sym, ap, ◌∙◌}
-use Rattle.ct_pieces.specs.Kind.{has_code}
+use Rattle.ct_files.specs.ByKind.{has_code}
 use Rattle.ct_pieces.proofs.PartLemmas.{placed, placed-coded}
 use Rattle.ct_pieces.proofs.standing.has_code.Goals as goal
 

@@ -2,7 +2,7 @@ use Rattle.std.proofs.Common.{rules, ◌≡◌, ℕ, true, false, option_map, So
 use Rattle.ct_words.specs.declared.entry.Entry.{Entry}
 use Rattle.ct_words.specs.Entry.{IsEntry}
 use Rattle.ct_build.specs.Build.{shape_of}
-use Rattle.ct_pieces.specs.Kind.{has_code}
+use Rattle.ct_files.specs.ByKind.{has_code}
 use Rattle.ct_pieces.proofs.PartLemmas.{placed, shape-coded, sized-coded, without_code}
 use Rattle.ct_pieces.proofs.standing.shape_at.Goals as goal
 

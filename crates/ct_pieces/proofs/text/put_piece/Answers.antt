@@ -4,7 +4,7 @@ use Rattle.ct_words.specs.declared.entry.Entry.{Entry}
 use Rattle.ct_text.specs.EntryText.{entry_words}
 use Rattle.ct_text.proofs.GrowingTexts.{puts-more, puts-six}
 use Rattle.ct_kind.specs.declared.evidence.Evidence.{Evidence}
-use Rattle.ct_pieces.specs.Kind.{kind_of}
+use Rattle.ct_files.specs.ByKind.{kind_of}
 use Rattle.ct_pieces.specs.Piece.{PieceValue}
 use Rattle.ct_pieces.specs.Text.{size_text, cites_text, piece_text}
 use Rattle.ct_pieces.proofs.text.put_piece.Goals as goal

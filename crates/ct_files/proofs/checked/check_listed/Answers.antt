@@ -10,16 +10,15 @@ use Rattle.ct_kind.specs.declared.evidence.Evidence.TheVariants.{Words, Cosets, 
 use Rattle.ct_kind.specs.declared.fault.SubmitFault.TheVariants as fault
 use Rattle.ct_partition_files.specs.ProductKind.{Ids}
 use Rattle.ct_partitions.specs.Check.{partition_fault}
-use Rattle.ct_partitions.specs.Partition.{words_of_classes}
-use Rattle.ct_pieces.specs.Codes.{codes_of}
-use Rattle.ct_pieces.specs.Inside.Checks.{IsCheck}
+use Rattle.ct_classes.specs.Partition.{words_of_classes}
+use Rattle.ct_files.specs.Checked.{IsCheck}
 use Rattle.ct_rule_parts.specs.declared.support.Support.TheVariants.{Nothing}
-use Rattle.ct_pieces.proofs.Checking.{check-sized, check-counted, check-dual}
-use Rattle.ct_pieces.proofs.kinds.check_listed.Goals as goal
+use Rattle.ct_files.proofs.Checking.{check-sized, check-counted, check-dual}
+use Rattle.ct_files.proofs.checked.check_listed.Goals as goal
 
 pub returns-in-Words : goal.returns-in-Words
-returns-in-Words c =
-    let known = codes_of c.args.pieces.now in
+returns-in-Words g c =
+    let known = g.P.Partitions.known c.args.pieces.now in
     let e = c.in-Words.entry in
     let words = c.as_slice.result.now in
     let r = c.of_code.result in
@@ -29,8 +28,8 @@ returns-in-Words c =
     c.check-size.ensures.size c.check-size.ensures.accepted c.check-size.ensures.fault))
 
 pub returns-in-Cosets : goal.returns-in-Cosets
-returns-in-Cosets c =
-    let known = codes_of c.args.pieces.now in
+returns-in-Cosets g c =
+    let known = g.P.Partitions.known c.args.pieces.now in
     let e = c.in-Cosets.entry in
     let basis = c.as_slice-in-Cosets.result.now in
     let representatives = c.as_slice-representatives.result.now in
@@ -43,8 +42,8 @@ returns-in-Cosets c =
     c.check-size-in-Cosets.result r c.of_code-in-Cosets.ensures (λ n. refl) refl refl said.size said.accepted said.fault)))
 
 pub returns-in-Partition : goal.returns-in-Partition
-returns-in-Partition c =
-    let known = codes_of c.args.pieces.now in
+returns-in-Partition g c =
+    let known = g.P.Partitions.known c.args.pieces.now in
     let e = c.in-Partition.entry in
     let between = c.in-Partition.between in
     let classes = c.in-Partition.classes in
@@ -58,22 +57,21 @@ returns-in-Partition c =
     c.of_classes.ensures (λ n. refl) refl refl said right wrong)
 
 pub returns-in-Product : goal.returns-in-Product
-returns-in-Product c =
-    let ps = c.new-standing.result in
-    let known = codes_of c.args.pieces.now in
+returns-in-Product g c =
+    let known = g.P.Partitions.known c.args.pieces.now in
     let e = c.in-Product.entry in
     let pairs = c.as_slice-in-Product.result.now in
     let r = c.of_code-in-Product.result in
-    let said = rw c.new-standing.ensures at c.check-size-in-Product.ensures.size in
-    let right = rw c.new-standing.ensures at c.check-size-in-Product.ensures.accepted in
-    let wrong = rw c.new-standing.ensures at c.check-size-in-Product.ensures.fault in
+    let said = c.check-size-in-Product.ensures.size in
+    let right = c.check-size-in-Product.ensures.accepted in
+    let wrong = c.check-size-in-Product.ensures.fault in
     subst (λ (evidence : Evidence). IsCheck known evidence r) (sym c.in-Product.is)
     (subst (λ (xs : List Ids). IsCheck known (Product e xs) r) c.as_slice-in-Product.ensures
     (check-sized known (Product e pairs) (λ n. support_from e (Some n)) c.check-size-in-Product.result r c.of_code-in-Product.ensures (λ n. refl) said right wrong))
 
 pub returns-in-Dual : goal.returns-in-Dual
-returns-in-Dual c =
-    let known = codes_of c.args.pieces.now in
+returns-in-Dual g c =
+    let known = g.P.Partitions.known c.args.pieces.now in
     let d = c.in-Dual.dual in
     let why = dual_fault (numbers_of d.entry) d in
     let r = c.of_dual.result in
@@ -82,8 +80,8 @@ returns-in-Dual c =
     (check-dual known (Dual d) (dual_support why d) fault.Dual why c.check.result r c.of_dual.ensures refl refl refl said.support said.accepted said.fault)
 
 pub returns-in-JohnsonDual : goal.returns-in-JohnsonDual
-returns-in-JohnsonDual c =
-    let known = codes_of c.args.pieces.now in
+returns-in-JohnsonDual g c =
+    let known = g.P.Partitions.known c.args.pieces.now in
     let d = c.in-JohnsonDual.dual in
     let why = dual_fault (numbers_of d.entry) d in
     let r = c.of_dual-in-JohnsonDual.result in
@@ -92,8 +90,8 @@ returns-in-JohnsonDual c =
     (check-dual known (JohnsonDual d) (dual_support why d) fault.Dual why c.check-in-JohnsonDual.result r c.of_dual-in-JohnsonDual.ensures refl refl refl said.support said.accepted said.fault)
 
 pub returns-in-Odd : goal.returns-in-Odd
-returns-in-Odd c =
-    let known = codes_of c.args.pieces.now in
+returns-in-Odd g c =
+    let known = g.P.Partitions.known c.args.pieces.now in
     let d = c.in-Odd.dual in
     let why = dual_fault (numbers_of d.entry) d in
     let r = c.of_dual-in-Odd.result in
@@ -102,8 +100,8 @@ returns-in-Odd c =
     (check-dual known (Odd d c.in-Odd.m) (odd_support c.in-Odd.m why d) fault.Dual why c.check_odd.result r c.of_dual-in-Odd.ensures refl refl refl said.support said.accepted said.fault)
 
 pub returns-in-JohnsonLocal : goal.returns-in-JohnsonLocal
-returns-in-JohnsonLocal c =
-    let known = codes_of c.args.pieces.now in
+returns-in-JohnsonLocal g c =
+    let known = g.P.Partitions.known c.args.pieces.now in
     let d = c.in-JohnsonLocal.dual in
     let why = dual_fault (numbers_of d.entry) d in
     let r = c.of_dual-in-JohnsonLocal.result in

@@ -1,7 +1,7 @@
 //! Partitions.
 
 ghost use Rattle.std.specs.Prelude.{◌≡◌, map};
-ghost use Rattle.ct_partitions.specs.Partition.{word_lists, PartitionValue, IsSoundPartition};
+ghost use Rattle.ct_classes.specs.Partition.{word_lists, PartitionValue, IsSoundPartition};
 
 use ct_words::{Entry, Word};
 use std::marker::Model;

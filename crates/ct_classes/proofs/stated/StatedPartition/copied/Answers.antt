@@ -2,8 +2,8 @@ use Rattle.std.proofs.Common.{◌≡◌, ℕ, List, [], ◌∷◌, Global, refl,
 use Rattle.std.specs.Prelude.{Vec}
 use Rattle.std.specs.Vec.{vec_len}
 use Rattle.std.specs.List.{AllZip}
-use Rattle.ct_partitions.specs.Partition.{word_lists, PartitionValue, IsSoundPartition}
-use Rattle.ct_kind.proofs.stated.StatedPartition.copied.Goals as goal
+use Rattle.ct_classes.specs.Partition.{word_lists, PartitionValue, IsSoundPartition}
+use Rattle.ct_classes.proofs.stated.StatedPartition.copied.Goals as goal
 
 -- clones of numbers are these
 same_numbers : (xs ys : List ℕ) → AllZip (λ x y. y ≡ x) xs ys → ys ≡ xs

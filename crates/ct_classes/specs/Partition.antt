@@ -7,7 +7,7 @@ use Rattle.ct_words.specs.declared.entry.Entry.{Entry}
 use Rattle.ct_words.specs.declared.fault.TheConstants.{MAX_WORDS}
 use Rattle.ct_words.specs.Entry.{IsEntry}
 use Rattle.ct_words.specs.Code.{IsCode}
-use Rattle.ct_partitions.specs.declared.fault.TheConstants.{MAX_CLASSES}
+use Rattle.ct_classes.specs.declared.fault.TheConstants.{MAX_CLASSES}
 
 -- vectors of words as lists of words
 abbrev pub word_lists : List (Vec ℕ Global) → List (List ℕ)

@@ -1,9 +1,9 @@
 //! Partitions as their documents state them.
 
 ghost use Rattle.std.specs.Prelude.{◌≡◌, IfOk};
-ghost use Rattle.ct_partitions.specs.Partition.{word_lists, IsSoundPartition};
+ghost use Rattle.ct_classes.specs.Partition.{word_lists, IsSoundPartition};
 
-use ct_partitions::Partition;
+use crate::partition::Partition;
 use ct_words::{Entry, Word};
 use std::alloc::{AllocError, Global};
 use std::marker::Model;
@@ -17,7 +17,7 @@ pub struct StatedPartition<'a> {
 }
 
 impl<'a> Model for StatedPartition<'a> {
-    ghost use Rattle.ct_partitions.specs.Partition.{word_lists, PartitionValue};
+    ghost use Rattle.ct_classes.specs.Partition.{word_lists, PartitionValue};
 
     ghost Value = { PartitionValue };
 

@@ -1,16 +1,17 @@
 -- Evidence by its kind, and what each kind says of it.
-use Rattle.std.specs.Prelude.{ℕ, Bool, List, Option, codes}
+use Rattle.std.specs.Prelude.{ℕ, Bool, if◌then◌else◌, List, Option, None, option_map, codes}
 use Rattle.std.specs.List.{list_any}
 use Rattle.std.specs.Option.{MatchOption}
 use Rattle.std.specs.Str.{bytes_eq}
 use Rattle.ct_words.specs.declared.entry.Entry.{Entry}
-use Rattle.ct_words.specs.Code.{IsCodeOf}
+use Rattle.ct_words.specs.Code.{CodeValue, IsCodeOf}
 use Rattle.ct_build.specs.Build.{IsRightBuild}
-use Rattle.ct_partitions.specs.Partition.{IsPartition}
+use Rattle.ct_classes.specs.Partition.{IsPartition}
 use Rattle.ct_kind.specs.declared.evidence.Evidence.{Evidence}
 use Rattle.ct_kind.specs.declared.evidence.Evidence.TheVariants.{Words, Cosets, Partition, Build, Product, Dual, JohnsonDual, Odd, JohnsonLocal}
 use Rattle.ct_kind.specs.Named.{NamedCode, code_named, other_named}
-use Rattle.ct_kind.specs.KindParts.{KindParts}
+use Rattle.ct_kind.specs.KindParts.{KindParts, kind_reason}
+use Rattle.ct_kind.specs.Ascending.{code_at}
 use Rattle.ct_word_files.specs.WordsKind.{words_kind}
 use Rattle.ct_word_files.specs.CosetsKind.{cosets_kind, IsCosetsChecked}
 use Rattle.ct_partition_files.specs.PartitionKind.{partition_kind}
@@ -73,3 +74,23 @@ IsChecked known (Dual d) = IsDualChecked d
 IsChecked known (JohnsonDual d) = IsDualChecked d
 IsChecked known (Odd d m) = IsDualChecked d
 IsChecked known (JohnsonLocal d) = IsDualChecked d
+
+-- the first reason against evidence over these pieces: the first named part that none of them is, or else its kind's own
+abbrev pub evidence_reason : List NamedCode → Evidence → Option SubmitFault
+evidence_reason known evidence = kind_reason (kind_of evidence) known
+
+-- the code that evidence states over these codes, where its kind has one
+abbrev pub code_over : List NamedCode → Evidence → Option CodeValue
+code_over known evidence = option_map (code_at (stated_entry evidence)) (words_over known evidence)
+
+-- whether the words of the code of such evidence are stored
+abbrev pub is_kept : Evidence → Bool
+is_kept evidence = (kind_of evidence).is_stored
+
+-- the code that is kept beside a piece of the evidence, once it is made: the one that it states over these codes, where its words are stored
+abbrev pub kept_over : List NamedCode → Evidence → Option CodeValue
+kept_over known evidence = if is_kept evidence then code_over known evidence else None
+
+-- the code that is made anew where it is needed: the one that evidence states over these codes, whose words are not stored
+abbrev pub listed_code : List NamedCode → Evidence → Option CodeValue
+listed_code known evidence = if is_kept evidence then None else code_over known evidence

@@ -3,7 +3,7 @@ use Rattle.std.proofs.Common.{◌≡◌, ℕ, true, List, codes}
 use Rattle.ct_kind.specs.declared.evidence.Evidence.{Evidence}
 use Rattle.ct_kind.specs.declared.evidence.Evidence.TheVariants.{Words, Cosets, Partition, Build, Product, Dual, JohnsonDual, Odd, JohnsonLocal}
 use Rattle.ct_kind.specs.Named.{NamedCode}
-use Rattle.ct_pieces.specs.Kind.{kind_of, names}
+use Rattle.ct_files.specs.ByKind.{kind_of, names}
 use Rattle.ct_kind.proofs.Stating.{SaysSame, IsAlike}
 use Rattle.ct_word_files.proofs.WordsKind.{words_same}
 use Rattle.ct_word_files.proofs.CosetsKind.{cosets_same}

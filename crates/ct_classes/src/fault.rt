@@ -36,7 +36,7 @@ pub enum PartitionFault {
 
 impl From<AllocError> for PartitionFault {
     ghost use Rattle.std.specs.Prelude.{◌≡◌};
-    ghost use Rattle.ct_partitions.specs.declared.fault.PartitionFault.TheVariants.{Memory};
+    ghost use Rattle.ct_classes.specs.declared.fault.PartitionFault.TheVariants.{Memory};
 
     ghost from_gives = { λ _ e. e ≡ Memory };
 

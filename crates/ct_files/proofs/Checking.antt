@@ -7,10 +7,10 @@ use Rattle.ct_kind.specs.declared.evidence.Evidence.{Evidence}
 use Rattle.ct_kind.specs.declared.fault.SubmitFault.{SubmitFault}
 use Rattle.ct_kind.specs.declared.fault.SubmitFault.TheVariants as fault
 use Rattle.ct_kind.specs.Named.{NamedCode}
-use Rattle.ct_pieces.specs.Kind.{kind_of, size_over}
-use Rattle.ct_pieces.specs.Submission.{evidence_reason}
-use Rattle.ct_pieces.specs.Inside.Checks.{dual_checked, IsCheck}
-use Rattle.ct_pieces.specs.declared.kinds.Checked.{Checked}
+use Rattle.ct_files.specs.ByKind.{kind_of, size_over}
+use Rattle.ct_files.specs.ByKind.{evidence_reason}
+use Rattle.ct_files.specs.Checked.{dual_checked, IsCheck}
+use Rattle.ct_files.specs.declared.checked.Checked.{Checked}
 
 -- what was counted, of which nothing is kept
 abbrev pub counted : (ℕ → Support) → ℕ → Checked

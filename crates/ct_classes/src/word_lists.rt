@@ -1,6 +1,6 @@
 //! Lists of words in a row.
 ghost use Rattle.std.specs.Prelude.{◌≡◌};
-ghost use Rattle.ct_partitions.specs.Partition.{word_lists};
+ghost use Rattle.ct_classes.specs.Partition.{word_lists};
 
 use ct_words::Word;
 use std::marker::Model;
@@ -22,7 +22,7 @@ impl Model for WordLists {
 
     ghost Value = { List (List ℕ) };
 
-    ghost use Rattle.ct_partitions.specs.Partition.{word_lists};
+    ghost use Rattle.ct_classes.specs.Partition.{word_lists};
 
     ghost view = { λ l. word_lists l.lists.items };
 }
