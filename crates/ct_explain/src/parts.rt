@@ -1,26 +1,14 @@
 //! The parts of pieces, as places.
 
-ghost use Rattle.std.specs.Prelude.{◌≡◌, ◌↔◌, [], false, IfOk};
-ghost use Rattle.ct_files.specs.ByKind.{parts_of};
+ghost use Rattle.std.specs.Prelude.{◌≡◌, IfOk};
 ghost use Rattle.ct_explain.specs.Parts.{part_places, parts_of_each};
 
 use ct_derive::{Parts, PieceParts};
-use ct_kind::Evidence;
+use ct_files::has_parts;
 use ct_pieces::Piece;
 use smallvec::SmallVec;
 use std::alloc::{AllocError, Global};
 use std::marker::Model;
-
-/// Whether the evidence names a part.
-fn has_parts(evidence: &Evidence) -> bool
-    ensures { (result ≡ false) ↔ (parts_of evidence.now ≡ []) }
-{
-    match evidence {
-        Evidence::Build { .. } => true,
-        Evidence::Product { pairs, .. } => !pairs.as_slice().is_empty(),
-        _ => false,
-    }
-}
 
 /// The places of the pieces that the piece names, each of them looked at. `Err` is want of memory.
 fn named_places(alloc: Global, pieces: &[Piece], piece: &Piece) -> Result<Parts, AllocError>

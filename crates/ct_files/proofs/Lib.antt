@@ -7,5 +7,6 @@ pub mod Lengths
 pub mod WrittenDocuments
 pub mod SameByKind
 pub mod StatedByKind
+pub mod GivesByKind
 pub mod OwnReasons
 pub mod Checking

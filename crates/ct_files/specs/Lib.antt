@@ -2,6 +2,7 @@ pub mod Kinds
 pub mod Evidence
 pub mod ByKind
 pub mod Checked
+pub mod PartNames
 pub mod Document
 pub mod DualAnswer
 pub mod Answers

@@ -20,8 +20,11 @@ use std::alloc::Global;
 /// it, and what the piece gives to a table.
 #[derive(Drop)]
 pub struct Checked {
+    /// The number of words of its code or of its classes; none for a dual.
     pub size: Option<u32>,
+    /// The code, where it is kept beside the piece and the check has made it.
     pub kept: Option<Code>,
+    /// What the piece gives to a table.
     pub support: Support,
 }
 
@@ -77,7 +80,11 @@ impl Checked {
     }
 }
 
-/// What the evidence comes to over the pieces, which is no build; or why it makes no piece.
+/// What the evidence comes to over the pieces, of which a product asks which partitions they are; or the first reason why it makes no piece.
+///
+/// The evidence is no build, and has the forms and ranges of its kind, as `read_evidence` gives it. A part that does not stand is `NoSuch`,
+/// one that does not fit `WrongPart`; else the reason is that of its kind's own check: `Code`, `Partition`, `Build` for a distance that is too
+/// short, `Dual`. `Memory` is want of memory.
 pub fn check_listed<P: Partitions>(
     alloc: Global,
     pieces: &P,

@@ -11,7 +11,7 @@ use ct_words::Code;
 use std::alloc::{AllocError, Global};
 
 /// The code that the evidence states over the pieces before it, against which there is no reason; none where the code is kept
-/// beside its piece.
+/// beside its piece, as that of a build, and where its kind has none. `Err` is want of memory.
 pub fn listed_code<P: Partitions>(
     alloc: Global,
     before: &P,

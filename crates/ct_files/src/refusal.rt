@@ -49,7 +49,7 @@ fn put_submit_fault(alloc: Global, text: &mut Vec<u8>, fault: SubmitFault) -> Re
     }
 }
 
-/// Why a submission is refused, in words; want of memory has none. `Err` is want of memory.
+/// Why a submission is refused, in words, as a reply has them after `refused `; want of memory has none. `Err` is want of memory.
 pub fn submit_refusal(alloc: Global, fault: &SubmitFault) -> Result<Vec<u8>, AllocError>
     ensures { IfOk result (λ text. text.items ≡ submit_fault_text fault.now) }
 {

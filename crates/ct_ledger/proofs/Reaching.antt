@@ -14,45 +14,18 @@ use Rattle.ct_rule_parts.specs.declared.support.Support.TheVariants as support
 use Rattle.ct_rule_parts.specs.declared.support.Support.TheVariants.{Nothing, Size, Bound, Local}
 use Rattle.ct_rules.specs.Derivation.{IsBest}
 use Rattle.ct_rules.proofs.GivenCodes.{support-derived}
-use Rattle.ct_kind.specs.declared.evidence.Evidence.{Evidence}
-use Rattle.ct_kind.specs.declared.evidence.Evidence.TheVariants.{Words, Cosets, Partition, Build, Product, Dual, JohnsonDual, Odd, JohnsonLocal}
+use Rattle.ct_kind.specs.declared.evidence.Evidence.TheVariants.{Odd}
 use Rattle.ct_kind.specs.Ascending.{ascending}
 use Rattle.ct_files.specs.ByKind.{kind_of, stated_entry, has_code, words_over}
+use Rattle.ct_files.proofs.GivesByKind.{gives-size, gives-coded}
 use Rattle.ct_pieces.specs.Piece.{PieceValue}
 use Rattle.ct_kind.specs.Ascending.{code_at}
 use Rattle.ct_pieces.specs.Codes.{codes_of, code_of_place}
 use Rattle.ct_pieces.specs.Supports.{support_of, supports_of}
 use Rattle.ct_pieces.specs.Standing.{AreStanding}
-use Rattle.ct_duals.specs.Check.{dual_fault}
-use Rattle.ct_words.specs.Numbers.{numbers_of}
-use Rattle.ct_dual_files.proofs.DualKind.{gives_no_size, odd_gives_no_size, local_gives_no_size}
 use Rattle.ct_kind.proofs.AscendingLemmas.{ascending-moved}
 use Rattle.ct_kind.proofs.SizeLemmas.{code-le}
 use Rattle.ct_pieces.proofs.PartLemmas.{IsPlaced, placed, Some-piece, piece-coded}
-
--- what a piece of a kind that has a code gives, which has a size
-gives-size : (evidence : Evidence) (k : ℕ) → has_code evidence ≡ true → (kind_of evidence).gives (Some k) ≡ Size (stated_entry evidence) k
-gives-size (Words e words) k coded = refl
-gives-size (Cosets e basis representatives) k coded = refl
-gives-size (Build e step part other) k coded = refl
-gives-size (Product e pairs) k coded = refl
-gives-size (Partition e between classes) k coded = absurd cc
-gives-size (Dual d) k coded = absurd cc
-gives-size (JohnsonDual d) k coded = absurd cc
-gives-size (Odd d m) k coded = absurd cc
-gives-size (JohnsonLocal d) k coded = absurd cc
-
--- what gives a size has a code
-gives-coded : (evidence : Evidence) (o : Option ℕ) (e : Entry) (size : ℕ) → (kind_of evidence).gives o ≡ Size e size → has_code evidence ≡ true
-gives-coded (Words f words) o e size h = refl
-gives-coded (Cosets f basis representatives) o e size h = refl
-gives-coded (Build f step part other) o e size h = refl
-gives-coded (Product f pairs) o e size h = refl
-gives-coded (Partition f between classes) o e size h = absurd cc
-gives-coded (Dual d) o e size h = absurd (gives_no_size d (dual_fault (numbers_of d.entry) d) e size h)
-gives-coded (JohnsonDual d) o e size h = absurd (gives_no_size d (dual_fault (numbers_of d.entry) d) e size h)
-gives-coded (Odd d m) o e size h = absurd (odd_gives_no_size d m (dual_fault (numbers_of d.entry) d) e size h)
-gives-coded (JohnsonLocal d) o e size h = absurd (local_gives_no_size d (dual_fault (numbers_of d.entry) d) e size h)
 
 -- the size and the words of a code that was made of words
 record IsMadeOf (e : Entry) (words : Option (List ℕ)) (c : CodeValue) : Type 0 where

@@ -6,7 +6,6 @@ use Rattle.std.specs.Str.{bytes_eq}
 use Rattle.std.proofs.lemmas.List.Folds.{list_any_more}
 use Rattle.std.proofs.lemmas.Option.{same_Some, get_or_from_slice_get}
 use Rattle.std.proofs.lemmas.Slice.Eq.{bytes_eq-Decides}
-use Rattle.ct_partition_files.specs.ProductKind.{Ids, ids_of}
 use Rattle.ct_files.specs.ByKind.{parts_of, names}
 use Rattle.ct_pieces.specs.Piece.{PieceValue, has_id}
 use Rattle.ct_pieces.specs.Standing.{AreStanding}
@@ -66,15 +65,6 @@ any_named test (i ∷ ids) id named h =
     of (inl same) rest =
         either_first (test i) (list_any test ids) (subst (λ (j : List ℕ). test j ≡ true) (sym ((bytes_eq-Decides i id).0 same)) h)
     of (inr later) rest = either_second (test i) (list_any test ids) (rest later)
-
--- the ids of pairs
-pub pairs_any : (test : List ℕ → Bool) (pairs : List Ids) → list_any (λ (p : Ids). test p.0 || test p.1) pairs ≡ list_any test (ids_of pairs)
-pairs_any test [] = refl
-pairs_any test (p ∷ ps) = at (test p.0) (test p.1) (pairs_any test ps) where
-  at : (a b : Bool) → list_any (λ (q : Ids). test q.0 || test q.1) ps ≡ list_any test (ids_of ps)
-      → ((a || b) || list_any (λ (q : Ids). test q.0 || test q.1) ps) ≡ (a || (b || list_any test (ids_of ps)))
-  at true b same = refl
-  at false b same = ap (λ (r : Bool). b || r) same
 
 -- after the first k pieces the names are those of the pieces among them that go
 pub record AreGone (pieces : List PieceValue) (id : List ℕ) (held : List ℕ → Bool) (k : ℕ) : Type 0 where

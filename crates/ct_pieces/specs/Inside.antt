@@ -1,5 +1,4 @@
 -- Words that the contracts of inner functions alone cite.
 pub mod Kept
 pub mod Unmarked
-pub mod Names
 pub mod Checks

@@ -2,9 +2,8 @@
 
 ghost use Rattle.std.specs.Prelude.{◌≡◌, ◌||◌, ◌≤◌, ℕ, List, true, if◌then◌else◌, IfOk, OnOk, length};
 ghost use Rattle.std.specs.List.{list_any};
-ghost use Rattle.std.specs.Option.{option_to_list};
 ghost use Rattle.std.specs.Str.{bytes_eq};
-ghost use Rattle.ct_pieces.specs.Inside.Names.{has_name};
+ghost use Rattle.ct_files.specs.PartNames.{has_name};
 ghost use Rattle.ct_pieces.specs.Inside.Unmarked.{unmarked};
 ghost use Rattle.ct_files.specs.ByKind.{parts_of};
 ghost use Rattle.ct_pieces.specs.Piece.{stored_words};
@@ -14,47 +13,10 @@ ghost use Rattle.ct_pieces.specs.declared.limits.TheConstants.{MAX_STORED};
 
 use crate::piece::Piece;
 use crate::pieces::stored_by;
-use ct_files::Evidence;
+use ct_files::has_part;
 use ct_names::Id;
 use std::alloc::{AllocError, Global};
 use std::collections::HashSet;
-
-/// Whether the set has the id.
-fn has<'a>(names: &HashSet<&'a [u8]>, id: &'a Id) -> bool
-    ensures { result ≡ has_name names.now id.now }
-{
-    names.contains(&id.text())
-}
-
-/// Whether the set has the id, where there is one.
-fn has_other<'a>(names: &HashSet<&'a [u8]>, other: &'a Option<Id>) -> bool
-    ensures { result ≡ list_any (has_name names.now) (option_to_list other.now) }
-{
-    match other {
-        Some(id) => has(names, id),
-        None => false,
-    }
-}
-
-/// Whether the set has one of the pairs' ids.
-fn has_of_pairs<'a>(names: &HashSet<&'a [u8]>, pairs: &'a [(Id, Id)]) -> bool
-    ensures { result ≡ list_any (λ pair. has_name names.now pair.0 || has_name names.now pair.1) pairs.now }
-{
-    pairs
-        .iter()
-        .any(|pair| has(names, &pair.0) || has(names, &pair.1))
-}
-
-/// Whether the set has one of the parts that the evidence names.
-fn has_part<'a>(names: &HashSet<&'a [u8]>, evidence: &'a Evidence) -> bool
-    ensures { result ≡ list_any (has_name names.now) (parts_of evidence.now) }
-{
-    match evidence {
-        Evidence::Build { part, other, .. } => has(names, part) || has_other(names, other),
-        Evidence::Product { pairs, .. } => has_of_pairs(names, pairs.as_slice()),
-        _ => false,
-    }
-}
 
 /// Whether the piece goes where those of the set do: it has the id, or names one of them as a part.
 fn goes<'a>(names: &HashSet<&'a [u8]>, piece: &'a Piece, id: Id) -> bool

@@ -1,5 +1,5 @@
 use Rattle.std.proofs.Common.{◌≡◌, map, take}
-use Rattle.ct_pieces.specs.Inside.Names.{has_name}
+use Rattle.ct_files.specs.PartNames.{has_name}
 use Rattle.ct_pieces.specs.Piece.{PieceValue}
 use Rattle.ct_pieces.specs.Withdrawal.{taken_along, is_among}
 use Rattle.ct_pieces.proofs.AlongPass.{AreGone}

@@ -1,6 +1,6 @@
 use Rattle.std.proofs.Common.{◌∙◌, ℕ, List, true, cond, ap}
 use Rattle.std.specs.Str.{bytes_eq}
-use Rattle.ct_pieces.specs.Inside.Names.{has_name}
+use Rattle.ct_files.specs.PartNames.{has_name}
 use Rattle.ct_pieces.proofs.along.put_name.Goals as goal
 
 pub returns : goal.returns

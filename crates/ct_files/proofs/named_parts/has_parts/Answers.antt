@@ -1,7 +1,7 @@
 use Rattle.std.proofs.Common.{◌≡◌, ◌↔◌, ℕ, false, not, nat_eq, List, [], ◌∷◌, length, refl, arith}
 use Rattle.std.proofs.lemmas.Bool.{eqb-true, not-false}
 use Rattle.ct_partition_files.specs.ProductKind.{ids_of}
-use Rattle.ct_explain.proofs.parts.has_parts.Goals as goal
+use Rattle.ct_files.proofs.named_parts.has_parts.Goals as goal
 
 -- pairs name no id just where there is none of them
 no_pairs : (pairs : List (List ℕ × List ℕ)) → (not (nat_eq (length pairs) 0) ≡ false) ↔ (ids_of pairs ≡ [])
