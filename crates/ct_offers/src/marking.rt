@@ -241,8 +241,8 @@ fn mark_from_duals(
     mark_each_weight(supports, places, bounds, work, entry, evaluations)
 }
 
-/// Marks the slots that rest on this one, where a rule gives something better there; `evaluations` grows by one for each bound of a rule that is
-/// worked out. After an `Err`, which is want of memory, some may be marked.
+/// Marks the slots that rest on this one, where a rule gives something better there; `evaluations` grows by one for each rule that is asked for
+/// its bound, whether it gives one or not, and stays at its greatest value. After an `Err`, which is want of memory, some may be marked.
 pub fn mark_dependents(
     supports: &[Support],
     places: &SupportPlaces,

@@ -438,7 +438,7 @@ fn ask_below(
 }
 
 /// The best bound that any rule gives on a side of an entry of the table over what stands, and the rule, none where it is what stands;
-/// `evaluations` grows by one for each bound of a rule that is worked out.
+/// `evaluations` grows by one for each rule that is asked for its bound, whether it gives one or not, and stays at its greatest value.
 pub fn best_offer(
     supports: &[Support],
     places: &SupportPlaces,
