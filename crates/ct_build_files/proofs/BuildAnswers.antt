@@ -18,7 +18,7 @@ use Rattle.ct_build_files.specs.Operation.{operation_text, operation_of, makes_l
 use Rattle.ct_build_files.specs.BuildFields.{operation_field, places_in, digits_of, by_field, step_fields, id_field, other_field}
 use Rattle.ct_build_files.specs.Build.{build_evidence_of}
 use Rattle.ct_fields.specs.StatesEntry.{HasWeight, StatesEntry}
-use Rattle.ct_build_files.specs.BuildDocument.{HasText, HasId, HasStepFields, NamesOther, StatesBuild}
+use Rattle.ct_build_files.specs.BuildDocument.{HasId, HasStepFields, NamesOther, StatesBuild}
 use Rattle.ct_kind.specs.declared.evidence.Evidence.TheVariants.{Build}
 use Rattle.ct_fields.specs.declared.field.FieldName.TheVariants as name
 use Rattle.ct_build_files.specs.declared.operation.Operation.{Operation}
@@ -26,10 +26,11 @@ use Rattle.ct_build_files.specs.declared.operation.Operation.TheVariants.{Length
 use Rattle.ct_fields.specs.declared.fault.DocumentFault.{DocumentFault}
 use Rattle.ct_fields.specs.declared.fault.DocumentFault.TheVariants.{Field}
 use Rattle.ct_fields.proofs.StepLemmas.{bind-ok, bind-at}
-use Rattle.ct_fields.proofs.FieldLemmas.{number_field-ok, number_field-from}
+use Rattle.ct_fields.proofs.FieldLemmas.{number_field-ok, number_field-from, text_field-ok, text_field-from}
 use Rattle.ct_fields.proofs.LastLemmas.{last_fields-from}
+use Rattle.ct_fields.specs.Tables.{HasText}
 use Rattle.ct_build_files.proofs.BuildEntryAnswers.{build_entry_of-from}
-use Rattle.ct_build_files.proofs.BuildFieldLemmas.{text_field-ok, text_field-from, operation_field-from, id_field-ok, id_field-from, left_out-true, places_field-ok, places_field-from, digits_of-some, digits_of-text}
+use Rattle.ct_build_files.proofs.BuildFieldLemmas.{operation_field-from, id_field-ok, id_field-from, left_out-true, places_field-ok, places_field-from, digits_of-some, digits_of-text}
 
 -- the step is the operation's, its fields stand in the document, and it fits the entry
 pub record IsStep (o : Operation) (e : Entry) (document : Data) (s : Step) : Type 0 where

@@ -16,9 +16,9 @@ use Rattle.ct_fields.specs.declared.fault.DocumentFault.TheVariants.{Field}
 use Rattle.ct_fields.proofs.StepLemmas.{bind-ok, bind-err, bind-at, bind-at_err, only_fault}
 use Rattle.ct_fields.proofs.FieldLemmas.{bytes_eq-true, bytes_eq-self, number_field-ok, number_field-from}
 use Rattle.ct_fields.proofs.EntryAnswers.{number_field-err, distance-ok, distance-from, distance_beside-err, weight_field-ok, weight_field-from, weight_field-err}
+use Rattle.ct_fields.specs.Tables.{HasText}
 use Rattle.ct_build_files.specs.BuildEntry.{selects, build_entry_of}
 use Rattle.ct_build_files.specs.Operation.{operation_text}
-use Rattle.ct_build_files.specs.BuildDocument.{HasText}
 use Rattle.ct_build_files.specs.BuildAnswer.{HasBuildDistance, StatesBuildEntry, IsBuildEntryFault}
 use Rattle.ct_build_files.specs.declared.operation.Operation.TheVariants.{Select}
 

@@ -14,7 +14,7 @@ use Rattle.ct_fields.specs.Ids.{id_in}
 use Rattle.ct_fields.specs.Fields.{field, number_field}
 use Rattle.ct_fields.specs.LastFields.{last_fields}
 use Rattle.ct_fields.specs.HasCites.{HasLast}
-use Rattle.ct_fields.specs.Tables.{IsOfKind, IsWordText}
+use Rattle.ct_fields.specs.Tables.{IsOfKind, IsWordText, HasText}
 use Rattle.ct_fields.specs.declared.field.FieldName.{FieldName}
 use Rattle.ct_fields.specs.declared.field.FieldName.TheVariants as name
 use Rattle.ct_fields.specs.declared.fault.DocumentFault.{DocumentFault}
@@ -25,16 +25,16 @@ use Rattle.ct_build_files.specs.BuildEntry.{build_entry_of}
 use Rattle.ct_build_files.specs.Operation.{operation_text, makes_length, takes_weight, takes_other, build_fields}
 use Rattle.ct_build_files.specs.BuildFields.{operation_field, places_in, digits_of, by_field, step_fields, id_field, other_field}
 use Rattle.ct_build_files.specs.Build.{build_with, build_by, build_evidence_of}
-use Rattle.ct_build_files.specs.BuildDocument.{HasText, HasId, StatesBuild}
+use Rattle.ct_build_files.specs.BuildDocument.{HasId, StatesBuild}
 use Rattle.ct_build_files.specs.BuildAnswer.{StatesBuildEntry, IsBuildEntryFault, StatesOperation, SuitsEntry, HasPlaces, HasOwnFields, IsOwnFault, NamesPart, NamesParts, IsWrongText, IsBuildFault, IsBuildAnswer}
 use Rattle.ct_build_files.specs.declared.operation.Operation.{Operation}
 use Rattle.ct_build_files.specs.declared.operation.Operation.TheVariants.{Lengthen, AppendOne, Parity, Puncture, Shorten, Translate, Complement, Select, Uuv, Juxtapose, Trim}
 use Rattle.ct_fields.proofs.StepLemmas.{bind-ok, bind-err, bind-at, bind-at_err, bind-cases, check-ok, check-err, ok_or-ok, ok_or-err, only_fault}
-use Rattle.ct_fields.proofs.FieldLemmas.{number_field-ok, number_field-from}
+use Rattle.ct_fields.proofs.FieldLemmas.{number_field-ok, number_field-from, text_field-ok, text_field-from}
 use Rattle.ct_fields.proofs.LastLemmas.{last_fields-ok, last_fields-from, last_fields-err, last_fields-wrong, last_fields-other, wrong_cites, other_key}
 use Rattle.ct_fields.proofs.EntryAnswers.{number_field-err}
 use Rattle.ct_build_files.proofs.BuildEntryAnswers.{build_entry_of-ok, stated-ok, stated-from, stated-err, stated-fault}
-use Rattle.ct_build_files.proofs.BuildFieldLemmas.{text_field-ok, text_field-from, operation_field-ok, operation_field-from, id_field-ok, id_field-from, left_out-true, places_field-ok, places_field-from, digits_of-some, digits_of-text}
+use Rattle.ct_build_files.proofs.BuildFieldLemmas.{operation_field-ok, operation_field-from, id_field-ok, id_field-from, left_out-true, places_field-ok, places_field-from, digits_of-some, digits_of-text}
 use Rattle.ct_build_files.proofs.BuildAnswers.{step_ok, OtherNamed, other_field-ok, other_field-from, names_other, build_answer-from}
 
 -- a field that can't be read is refused by its name

@@ -16,7 +16,7 @@ use Rattle.ct_fields.specs.Ids.{id_in}
 use Rattle.ct_fields.specs.Fields.{field, number_in}
 use Rattle.ct_build_files.specs.Operation.{operation_text, operations, named_among, operation_named}
 use Rattle.ct_build_files.specs.BuildFields.{operation_in, operation_field, ascend, are_left_out, places_in, digits_of, id_field}
-use Rattle.ct_build_files.specs.BuildDocument.{HasText, HasNumbers, HasId}
+use Rattle.ct_build_files.specs.BuildDocument.{HasNumbers, HasId}
 use Rattle.ct_fields.specs.declared.field.FieldName.{FieldName}
 use Rattle.ct_fields.specs.declared.field.FieldName.TheVariants as name
 use Rattle.ct_build_files.specs.declared.operation.Operation.{Operation}
@@ -24,28 +24,10 @@ use Rattle.ct_build_files.specs.declared.operation.Operation.TheVariants.{Length
 use Rattle.ct_fields.specs.declared.fault.DocumentFault.TheVariants.{Field}
 use Rattle.ct_fields.proofs.StepLemmas.{ok_or-ok}
 use Rattle.ct_fields.proofs.IdTexts.{id_in-some}
-use Rattle.ct_fields.proofs.FieldLemmas.{bytes_eq-true}
+use Rattle.ct_fields.proofs.FieldLemmas.{bytes_eq-true, as_str-some}
 use Rattle.ct_fields.specs.Forms.{all_of}
 use Rattle.ct_fields.proofs.FormLemmas.{all-some, all-from, index-reads}
-
--- a value that is a text
-as_str-some : (d : Data) (text : List ℕ) → as_str d ≡ Some text → d ≡ string text
-as_str-some (string s) text e = let same : s ≡ text = cc in ap string same
-as_str-some (integer z) text e = absurd cc
-as_str-some (float x) text e = absurd cc
-as_str-some (boolean b) text e = absurd cc
-as_str-some (datetime t) text e = absurd cc
-as_str-some (array ds) text e = absurd cc
-as_str-some (table ms) text e = absurd cc
-
--- a text is read exactly where the field is one
-pub text_field-ok : (name : FieldName) (document : Data) (text : List ℕ) → field as_str name document ≡ Ok text → HasText name document text
-text_field-ok name document text e =
-    option_and_then_some as_str (get (field_text name) document) text (ok_or-ok _ (Field name) text e) (λ d found h. found ∙ ap Some (as_str-some d text h))
-
-pub text_field-from : (name : FieldName) (document : Data) (text : List ℕ) → HasText name document text
-    → field as_str name document ≡ Ok text
-text_field-from name document text h = rw h refl
+use Rattle.ct_fields.specs.Tables.{HasText}
 
 -- an operation that is found has the text
 named_among-some : (os : List Operation) (text : List ℕ) (o : Operation) → named_among os text ≡ Some o → text ≡ operation_text o

@@ -5,7 +5,7 @@ use Rattle.ct_words.specs.declared.limits.TheConstants.{MAX_N}
 use Rattle.ct_words.specs.declared.entry.Entry.{Entry}
 use Rattle.ct_words.specs.Constructions.Places.{ArePlaces}
 use Rattle.ct_build.specs.declared.building.TheConstants.{MAX_BUILT}
-use Rattle.ct_fields.specs.Tables.{HasNumber, IsWordText}
+use Rattle.ct_fields.specs.Tables.{HasNumber, IsWordText, HasText}
 use Rattle.ct_fields.specs.HasCites.{HasRightCites, HasWrongCites, HasOther, HasLast}
 use Rattle.ct_fields.specs.StatesEntry.{HasLength, HasDistanceBeside, HasWeight}
 use Rattle.ct_fields.specs.declared.field.FieldName.{FieldName}
@@ -15,7 +15,7 @@ use Rattle.ct_fields.specs.declared.fault.DocumentFault.TheVariants.{Field, Unkn
 use Rattle.ct_kind.specs.declared.evidence.Evidence.{Evidence}
 use Rattle.ct_kind.specs.declared.evidence.Evidence.TheVariants.{Build}
 use Rattle.ct_build_files.specs.Operation.{operation_text, makes_length, takes_weight, takes_other, build_fields}
-use Rattle.ct_build_files.specs.BuildDocument.{HasText, HasNumbers, HasId, StatesBuild}
+use Rattle.ct_build_files.specs.BuildDocument.{HasNumbers, HasId, StatesBuild}
 use Rattle.ct_build_files.specs.declared.operation.Operation.{Operation}
 use Rattle.ct_build_files.specs.declared.operation.Operation.TheVariants.{Puncture, Shorten, Translate, Select, Trim}
 

@@ -1,6 +1,6 @@
 -- Which documents are accepted as a build.
 use Rattle.std.specs.Prelude.{◌≡◌, ℕ, pos, ◌+◌, true, false, List, map, Option, Some, None, IsTrue, ⊤, codes}
-use Rattle.toml.specs.Data.{Data, string, integer, array, get}
+use Rattle.toml.specs.Data.{Data, integer, array, get}
 use Rattle.toml.specs.View.{items_of}
 use Rattle.ct_words.specs.Text.{word_text}
 use Rattle.ct_names.specs.Id.{is_id}
@@ -10,15 +10,11 @@ use Rattle.ct_build.specs.declared.step.Step.{Step}
 use Rattle.ct_build.specs.declared.step.Step.TheVariants.{Puncture, Shorten, Translate, Select, Trim}
 use Rattle.ct_fields.specs.Field.{field_text}
 use Rattle.ct_build_files.specs.Operation.{operation_text, operation_of, needs_other, build_fields}
-use Rattle.ct_fields.specs.Tables.{IsDocument, IsOfKind}
+use Rattle.ct_fields.specs.Tables.{IsDocument, IsOfKind, HasText}
 use Rattle.ct_fields.specs.HasCites.{HasRightFormat, HasLast}
 use Rattle.ct_fields.specs.StatesEntry.{StatesEntry}
 use Rattle.ct_fields.specs.declared.field.FieldName.{FieldName}
 use Rattle.ct_fields.specs.declared.field.FieldName.TheVariants as name
-
--- the field is the text
-abbrev pub HasText : FieldName → Data → List ℕ → Type 0
-HasText name document text = get (field_text name) document ≡ Some (string text)
 
 -- the field is the list of the numbers
 abbrev pub HasNumbers : FieldName → Data → List ℕ → Type 0

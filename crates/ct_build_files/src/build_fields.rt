@@ -1,6 +1,5 @@
 //! The own fields of documents of kind build.
 ghost use Rattle.std.specs.Prelude.{◌≡◌, ◌≤◌, length, IfOk, option_map};
-ghost use Rattle.toml.specs.Data.{as_str};
 ghost use Rattle.toml.specs.View.{view};
 ghost use Rattle.ct_words.specs.declared.limits.TheConstants.{MAX_N};
 ghost use Rattle.ct_fields.specs.Reads.{Reads};
@@ -9,7 +8,7 @@ ghost use Rattle.ct_build_files.specs.BuildFields.{operation_field, ascend, are_
 
 use crate::operation::Operation;
 use ct_build::{MAX_BUILT, Step};
-use ct_fields::{DocumentFault, FieldName, all_of, id_in, number_field};
+use ct_fields::{DocumentFault, FieldName, all_of, id_in, number_field, text_field};
 use ct_names::Id;
 use ct_words::{Listed, MAX_N, Word, parse_word};
 use std::alloc::{AllocError, Global};
@@ -70,16 +69,6 @@ fn places_field(alloc: Global, n: u32, document: &Value) -> Result<Vec<u32>, Doc
             None => Err(DocumentFault::Field(FieldName::Places)),
         },
         _ => Err(DocumentFault::Field(FieldName::Places)),
-    }
-}
-
-/// The text at the field.
-fn text_field(document: &Value, name: FieldName) -> Result<&str, DocumentFault>
-    ensures { Reads (λ text. text.now) result (field as_str name (view document.now)) }
-{
-    match document.get(name.text()) {
-        Some(Value::String(text)) => Ok(text.as_str()),
-        _ => Err(DocumentFault::Field(name)),
     }
 }
 

@@ -11,11 +11,11 @@ use Rattle.std.proofs.lemmas.Map.Text.{is_eq-slice_cmp}
 use Rattle.std.proofs.lemmas.Map.Views.{Contains-from_any, list_any-from_Contains}
 use Rattle.std.proofs.lemmas.Option.{option_and_then_some, cond_some}
 use Rattle.std.proofs.lemmas.Slice.Eq.{bytes_eq-Decides}
-use Rattle.toml.specs.Data.{Data, string, integer, float, boolean, datetime, array, table, Items, no_items, item, Members, no_members, member, get, get_member}
+use Rattle.toml.specs.Data.{Data, string, integer, float, boolean, datetime, array, table, Items, no_items, item, Members, no_members, member, get, get_member, as_str}
 use Rattle.toml.specs.View.{items_of}
 use Rattle.ct_fields.specs.Field.{field_text}
 use Rattle.ct_fields.specs.Fields.{is_text, is_of_kind, field, number_in, number_field, texts_of, texts_in, texts_field, is_named, keys_are_named, has_only}
-use Rattle.ct_fields.specs.Tables.{IsOfKind, HasNumber, HasTexts, IsNamed}
+use Rattle.ct_fields.specs.Tables.{IsOfKind, HasNumber, HasText, HasTexts, IsNamed}
 use Rattle.ct_fields.specs.declared.field.FieldName.{FieldName}
 use Rattle.ct_fields.specs.declared.fault.DocumentFault.TheVariants.{Field}
 use Rattle.ct_fields.proofs.StepLemmas.{ok_or-ok}
@@ -70,6 +70,24 @@ number_field-ok name low high document k e =
 
 pub number_field-from : (name : FieldName) (low high : ℕ) (document : Data) (k : ℕ) → HasNumber name low high document k → number_field name low high document ≡ Ok k
 number_field-from name low high document k h = rw (h.0, le-leb low k h.1, le-leb k high h.2) refl
+
+-- a value that is a text
+pub as_str-some : (d : Data) (text : List ℕ) → as_str d ≡ Some text → d ≡ string text
+as_str-some (string s) text e = let same : s ≡ text = cc in ap string same
+as_str-some (integer z) text e = absurd cc
+as_str-some (float x) text e = absurd cc
+as_str-some (boolean b) text e = absurd cc
+as_str-some (datetime t) text e = absurd cc
+as_str-some (array ds) text e = absurd cc
+as_str-some (table ms) text e = absurd cc
+
+-- a text is read exactly where the field is one
+pub text_field-ok : (name : FieldName) (document : Data) (text : List ℕ) → field as_str name document ≡ Ok text → HasText name document text
+text_field-ok name document text e =
+    option_and_then_some as_str (get (field_text name) document) text (ok_or-ok _ (Field name) text e) (λ d found h. found ∙ ap Some (as_str-some d text h))
+
+pub text_field-from : (name : FieldName) (document : Data) (text : List ℕ) → HasText name document text → field as_str name document ≡ Ok text
+text_field-from name document text h = rw h refl
 
 -- the texts of a list that is read
 texts_of-some : (ds : Items) (texts : List (List ℕ)) → texts_of ds ≡ Some texts → ds ≡ items_of (map string texts)

@@ -22,6 +22,10 @@ IsOfKind kind document = get (codes "kind") document ≡ Some (string kind)
 abbrev pub HasNumber : FieldName → ℕ → ℕ → Data → ℕ → Type 0
 HasNumber name low high document k = (get (field_text name) document ≡ Some (integer (pos k))) × (low ≤ k) × (k ≤ high)
 
+-- the field is the text
+abbrev pub HasText : FieldName → Data → List ℕ → Type 0
+HasText name document text = get (field_text name) document ≡ Some (string text)
+
 -- the field is the list of the texts
 abbrev pub HasTexts : FieldName → Data → List (List ℕ) → Type 0
 HasTexts name document texts = get (field_text name) document ≡ Some (array (items_of (map string texts)))

@@ -4,7 +4,7 @@ ghost use Rattle.toml.specs.Data.{as_str};
 ghost use Rattle.toml.specs.View.{view, items_view};
 ghost use Rattle.ct_words.specs.declared.limits.TheConstants.{MAX_N};
 ghost use Rattle.ct_fields.specs.Reads.{Reads, texts_behind};
-ghost use Rattle.ct_fields.specs.Fields.{number_in, number_field, texts_of, texts_field, words_from};
+ghost use Rattle.ct_fields.specs.Fields.{field, number_in, number_field, texts_of, texts_field, words_from};
 
 use crate::fault::DocumentFault;
 use crate::field::FieldName;
@@ -39,6 +39,16 @@ pub(crate) fn number_in(value: &Value, low: u32, high: u32) -> Option<u32>
             Some(*number as u32)
         }
         _ => None,
+    }
+}
+
+/// The text of the field.
+pub fn text_field(document: &Value, name: FieldName) -> Result<&str, DocumentFault>
+    ensures { Reads (λ text. text.now) result (field as_str name (view document.now)) }
+{
+    match document.get(name.text()) {
+        Some(Value::String(text)) => Ok(text.as_str()),
+        _ => Err(DocumentFault::Field(name)),
     }
 }
 

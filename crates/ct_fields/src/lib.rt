@@ -20,7 +20,7 @@ pub use entry::{
 };
 pub use fault::DocumentFault;
 pub use field::FieldName;
-pub use fields::{number_field, texts_field, texts_of, words_from};
+pub use fields::{number_field, text_field, texts_field, texts_of, words_from};
 pub use formats::{format_of, may_cite};
 pub use forms::{Form, all_of};
 pub use ids::{id_in, id_value};
