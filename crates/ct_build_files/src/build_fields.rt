@@ -107,11 +107,11 @@ fn shorten_fields(alloc: Global, n: u32, document: &Value) -> Result<Option<Step
     }
 }
 
-/// The word that the field `by` writes, where its text is right.
+/// The word that the field `by` writes, where its text is right. It takes no memory.
 fn by_field(n: u32, document: &Value) -> Result<Option<Word>, DocumentFault>
     requires some { 1 ≤ n }
     requires room { n ≤ MAX_N }
-    ensures { Reads (λ by. by) result (by_field n (view document.now)) }
+    ensures { result ≡ by_field n (view document.now) }
 {
     let text = text_field(document, FieldName::By)?;
     Ok(parse_word(text.as_bytes(), n).ok())

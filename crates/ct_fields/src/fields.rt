@@ -1,5 +1,6 @@
 //! The fields of a document.
 ghost use Rattle.std.specs.Prelude.{◌≡◌, ◌+◌, ◌^◌, ◌<◌, ◌≤◌, length, IfOk, option_map};
+ghost use Rattle.std.specs.Result.{result_map_both};
 ghost use Rattle.toml.specs.Data.{as_str};
 ghost use Rattle.toml.specs.View.{view, items_view};
 ghost use Rattle.ct_words.specs.declared.limits.TheConstants.{MAX_N};
@@ -42,9 +43,9 @@ pub(crate) fn number_in(value: &Value, low: u32, high: u32) -> Option<u32>
     }
 }
 
-/// The text of the field.
+/// The text of the field. It takes no memory.
 pub fn text_field(document: &Value, name: FieldName) -> Result<&str, DocumentFault>
-    ensures { Reads (λ text. text.now) result (field as_str name (view document.now)) }
+    ensures { result_map_both (λ text. text.now) (λ fault. fault) result ≡ field as_str name (view document.now) }
 {
     match document.get(name.text()) {
         Some(Value::String(text)) => Ok(text.as_str()),
