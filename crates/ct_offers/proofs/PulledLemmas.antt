@@ -10,7 +10,7 @@ use Rattle.ct_words.specs.declared.claim.Side.TheVariants.{Lower, Upper}
 use Rattle.ct_words.specs.declared.entry.Entry.{Entry}
 use Rattle.ct_words.specs.Entry.{IsEntry}
 use Rattle.ct_rule_parts.specs.declared.support.Support.{Support}
-use Rattle.ct_rule_parts.specs.Slot.{Slot, IsNoBetter}
+use Rattle.ct_rule_parts.specs.Slot.{Slot, IsNoBetter, IsBetter}
 use Rattle.ct_rule_parts.specs.Support.{size_at, dual_behind}
 use Rattle.ct_rule_parts.proofs.SlotLemmas.{IsNoBetter-self}
 use Rattle.ct_rules.specs.declared.rule.Rule.{Rule}
@@ -24,7 +24,7 @@ use Rattle.ct_rules.proofs.ClosedBounds.{no_better-trans}
 use Rattle.ct_rules.proofs.RuleLists.{rules_at-complete}
 use Rattle.ct_offers.specs.declared.best.Best.{Best}
 use Rattle.ct_slots.specs.Places.{GivesTo, AreSupportPlaces, IsPlaceOf, IsUpTo}
-use Rattle.ct_offers.specs.Offers.{IsGiven, IsWithin}
+use Rattle.ct_offers.specs.Offers.{IsGiven, IsWithin, value_over}
 use Rattle.ct_offers.specs.Inside.Pulled.{IsPulled, given_rule}
 use Rattle.ct_offers.proofs.BoundingRules.{bounding-bound, bounding-odd, bounding-weighted, bounding-local, bounding_dual}
 use Rattle.ct_offers.proofs.PullingLemmas.{over-applies}
@@ -38,6 +38,31 @@ IsPulled-trans supports f s first middle last one other = record {
   no_worse = no_better-trans s.0 first.value middle.value last.value one.no_worse other.no_worse;
   given = λ h. other.given (one.given h);
 }
+
+-- what is better than a bound that is given is better than what stands
+better_still : (supports : List Support) (f : Slot → ℕ) (side : Side) (e : Entry) (u v : ℕ) (o : Option Rule) → IsBetter side v u
+    → IsGiven supports f (side, e) u o → IsBetter side v (f (side, e))
+better_still supports f Lower e u v None better given = omega (arith, better, given)
+better_still supports f Lower e u v (Some r) better given = let more = given.2 in omega (arith, better, more)
+better_still supports f Upper e u v None better given = omega (arith, better, given)
+better_still supports f Upper e u v (Some r) better given = let more = given.2 in omega (arith, better, more)
+
+better_no_worse : (side : Side) (u v : ℕ) → IsBetter side v u → IsNoBetter side u v
+better_no_worse Lower u v better = omega (arith, better)
+better_no_worse Upper u v better = omega (arith, better)
+
+-- so a better one that a rule gives is put in its place
+pub pulled_by : (supports : List Support) (f : Slot → ℕ) (side : Side) (e : Entry) (old : Best) (r : Rule) (v : ℕ) → rule_side r ≡ side
+    → value_over supports f r e ≡ Some v → IsBetter side v old.value → IsPulled supports f (side, e) old (record { value = v; rule = Some r })
+pulled_by supports f side e old r v same value better = record {
+  no_worse = better_no_worse side old.value v better;
+  given = λ h. (same, value, better_still supports f side e old.value v old.rule better h);
+}
+
+-- on the side that is known
+pub pulled_on : (supports : List Support) (f : Slot → ℕ) (side own : Side) (e : Entry) (old new : Best) → side ≡ own
+    → IsPulled supports f (own, e) old new → IsPulled supports f (side, e) old new
+pulled_on supports f side own e old new same pulled = subst (λ (s : Side). IsPulled supports f (s, e) old new) (sym same) pulled
 
 -- what is within a bound is within one that is no worse
 pub within_better : (supports : List Support) (f : Slot → ℕ) (s : Slot) (u v : ℕ) (r : Rule) → IsNoBetter s.0 u v
@@ -274,8 +299,7 @@ pub given_lower : (supports : List Support) (f : Slot → ℕ) (side : Side) (e 
     → IsGiven supports f (side, e) middle.value middle.rule → IsPulled supports f (Lower, e) middle best
     → IsGiven supports f (side, e) best.value best.rule
 given_lower supports f side e middle best low given pulled =
-    let here : IsPulled supports f (side, e) middle best =
-    subst (λ (s : Side). IsPulled supports f (s, e) middle best) (sym low) pulled in here.given given
+    let here = pulled_on supports f side Lower e middle best low pulled in here.given given
 
 -- what stands is given
 pub standing_given : (supports : List Support) (f : Slot → ℕ) (s : Slot) (best : Best) → best.value ≡ f s → best.rule ≡ None

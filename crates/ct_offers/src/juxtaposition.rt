@@ -104,8 +104,7 @@ fn mark_sum(
     if work.is_marked(Side::Lower, sum) {
         return Ok(());
     }
-    work.mark(Side::Lower, sum)?;
-    Ok(())
+    work.mark(Side::Lower, sum)
 }
 
 /// Marks the entries of length n at which words of the entry's code side by side with others give something better.

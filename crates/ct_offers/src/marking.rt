@@ -40,9 +40,10 @@ fn mark_where_better(
         return Ok(());
     };
     if is_better(side, value, bounds.bound(side, entry)) {
-        work.mark(side, entry)?;
+        work.mark(side, entry)
+    } else {
+        Ok(())
     }
-    Ok(())
 }
 
 /// Marks the entry, where it is in the table and the rule gives something better there; it gives nothing better where both
@@ -116,7 +117,8 @@ fn mark_by_weight(
     let Some(w) = entry.w else {
         return Ok(());
     };
-    let (same, nearer) = (unweighted(entry), unweighted_and_nearer(entry));
+    let same = unweighted(entry);
+    let nearer = unweighted_and_nearer(entry);
     match side {
         Side::Lower => {
             test(supports, bounds, work, Rule::L9(w), same, evaluations)?;
@@ -235,7 +237,8 @@ fn mark_from_duals(
     if supports.is_empty() {
         return Ok(());
     }
-    let (same, nearer) = (unweighted(entry), unweighted_and_nearer(entry));
+    let same = unweighted(entry);
+    let nearer = unweighted_and_nearer(entry);
     mark_by_duals(supports, places, bounds, work, same, entry, evaluations)?;
     mark_by_duals(supports, places, bounds, work, nearer, entry, evaluations)?;
     mark_each_weight(supports, places, bounds, work, entry, evaluations)
@@ -266,8 +269,7 @@ pub fn mark_dependents(
         (Side::Lower, Some(_)) => Ok(()),
         (Side::Upper, None) => Ok(()),
         (Side::Upper, Some(_)) => {
-            mark_from_duals(supports, places, bounds, work, entry, evaluations)?;
-            Ok(())
+            mark_from_duals(supports, places, bounds, work, entry, evaluations)
         }
     }
 }

@@ -119,7 +119,6 @@ fn offer_of_two(
 }
 
 /// The bound that a rule that rests on three entries gives at an entry of the table over what stands.
-#[inline(always)]
 fn offer_of_three(
     supports: &[Support],
     bounds: &Bounds,
@@ -326,10 +325,13 @@ fn bounding_rule(supports: &[Support], place: u32) -> Rule
     ensures rule { result ≡ bounding_rule (slice_get supports.now place) place }
     ensures side { rule_side result ≡ Upper }
 {
-    match supports.get(place as usize) {
-        Some(Support::Odd { .. }) => Rule::U12(place),
-        Some(Support::Nothing | Support::Size { .. } | Support::Bound(_) | Support::Local(_))
-        | None => Rule::U11(place),
+    let Some(support) = supports.get(place as usize) else {
+        return Rule::U11(place);
+    };
+    if let Support::Odd { .. } = support {
+        Rule::U12(place)
+    } else {
+        Rule::U11(place)
     }
 }
 
@@ -338,10 +340,13 @@ fn bounding_rule_of_weight(supports: &[Support], place: u32) -> Rule
     ensures rule { result ≡ bounding_rule_of_weight (slice_get supports.now place) place }
     ensures side { rule_side result ≡ Upper }
 {
-    match supports.get(place as usize) {
-        Some(Support::Local(_)) => Rule::V10(place),
-        Some(Support::Nothing | Support::Size { .. } | Support::Bound(_) | Support::Odd { .. })
-        | None => Rule::V9(place),
+    let Some(support) = supports.get(place as usize) else {
+        return Rule::V9(place);
+    };
+    if let Support::Local(_) = support {
+        Rule::V10(place)
+    } else {
+        Rule::V9(place)
     }
 }
 

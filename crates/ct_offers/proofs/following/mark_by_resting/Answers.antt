@@ -39,3 +39,15 @@ returns-in-Upper-Some c = record {
       c.mark_by_upper_with_weight.ensures.tested;
   kept = c.mark_by_upper_with_weight.ensures.kept;
 }
+
+pub mark_by_lower-requires : goal.mark_by_lower-requires
+mark_by_lower-requires c = record { entry = c.requires.entry; stand = c.requires.stand; true_bounds = c.requires.true_bounds }
+
+pub mark_by_lower_with_weight-requires : goal.mark_by_lower_with_weight-requires
+mark_by_lower_with_weight-requires c = record { entry = c.requires.entry; stand = c.requires.stand; true_bounds = c.requires.true_bounds }
+
+pub mark_by_upper-requires : goal.mark_by_upper-requires
+mark_by_upper-requires c = record { entry = c.requires.entry; stand = c.requires.stand; true_bounds = c.requires.true_bounds }
+
+pub mark_by_upper_with_weight-requires : goal.mark_by_upper_with_weight-requires
+mark_by_upper_with_weight-requires c = record { entry = c.requires.entry; stand = c.requires.stand; true_bounds = c.requires.true_bounds }

@@ -53,3 +53,21 @@ pub returns-then-entry-clause-within : goal.returns-then-entry-clause-within
 returns-then-entry-clause-within c = λ supports.
     wide_within supports (bound_of c.args.bounds.now) c.args.entry c.args.best.now.value c.requires.true_bounds c.requires.some c.requires.two
     (omega (arith, c.if-entry.true))
+
+pub loop-m-init : goal.loop-m-init
+loop-m-init c = (
+  λ supports. IsPulled-refl supports (bound_of c.args.bounds.now) (Lower, c.args.entry) c.args.best.now,
+  λ supports m k from below. absurd (omega (arith, from, below)),
+)
+
+pub returns-clause-pulled : goal.returns-clause-pulled
+returns-clause-pulled c = c.loop-m.invariant.0
+
+pub best_with_first-requires-clause-entry : goal.best_with_first-requires-clause-entry
+best_with_first-requires-clause-entry c = c.requires.entry
+
+pub best_with_first-requires-clause-plain : goal.best_with_first-requires-clause-plain
+best_with_first-requires-clause-plain c = c.requires.plain
+
+pub best_with_first-requires-clause-true_bounds : goal.best_with_first-requires-clause-true_bounds
+best_with_first-requires-clause-true_bounds c = c.requires.true_bounds

@@ -2,7 +2,7 @@ use Rattle.std.proofs.Common.{◌≡◌, ◌+◌, ◌*◌, ◌/◌, ◌≤◌, [
 use Rattle.std.proofs.lemmas.Bool.{cases_eq, cases_lt}
 use Rattle.ct_words.specs.declared.claim.Side.TheVariants.{Lower}
 use Rattle.ct_slots.specs.Number.{bound_of}
-use Rattle.ct_offers.proofs.PulledLemmas.{IsPulled-trans}
+use Rattle.ct_offers.proofs.PulledLemmas.{IsPulled-trans, IsPulled-refl}
 use Rattle.ct_offers.proofs.JuxtapositionLemmas.{IsSum, least_of, sum_here, sum_offer, sum_side, first_enough}
 use Rattle.ct_offers.proofs.juxtaposition.best_with_first.Goals as goal
 
@@ -52,3 +52,12 @@ returns-clause-within c =
       | inr above ↦ inl (omega (arith, above))
     ])
     (λ k low_k below. c.loop-c.invariant.1 k low_k (omega (arith, c.loop-c-test.false, below)))
+
+pub loop-c-init : goal.loop-c-init
+loop-c-init c = (
+  λ supports. IsPulled-refl supports (bound_of c.args.bounds.now) (Lower, c.args.entry) c.args.best.now,
+  λ k from below. absurd (omega (arith, from, below)),
+)
+
+pub returns-clause-pulled : goal.returns-clause-pulled
+returns-clause-pulled c = c.loop-c.invariant.0

@@ -18,3 +18,21 @@ pub returns-clause-tested : goal.returns-clause-tested
 returns-clause-tested c =
     tested_all c.args.bounds.now c.loop-n.work c.args.entry c.loop-n.n c.requires.true_bounds (omega (arith, c.loop-n-test.false))
     c.loop-n.invariant.1
+
+pub loop-n-init : goal.loop-n-init
+loop-n-init c = (λ t entry marked. marked, λ n from below. absurd (omega (arith, from, below)))
+
+pub returns-clause-kept : goal.returns-clause-kept
+returns-clause-kept c = c.loop-n.invariant.0
+
+pub returns-in_err-mark_sums_of_length-clause-kept : goal.returns-in_err-mark_sums_of_length-clause-kept
+returns-in_err-mark_sums_of_length-clause-kept c = λ t entry marked. c.in_err-mark_sums_of_length.ensures.kept t entry (c.loop-n.invariant.0 t entry marked)
+
+pub mark_sums_of_length-requires-clause-entry : goal.mark_sums_of_length-requires-clause-entry
+mark_sums_of_length-requires-clause-entry c = c.requires.entry
+
+pub mark_sums_of_length-requires-clause-plain : goal.mark_sums_of_length-requires-clause-plain
+mark_sums_of_length-requires-clause-plain c = c.requires.plain
+
+pub mark_sums_of_length-requires-clause-true_bounds : goal.mark_sums_of_length-requires-clause-true_bounds
+mark_sums_of_length-requires-clause-true_bounds c = c.requires.true_bounds

@@ -1,10 +1,7 @@
 use Rattle.std.proofs.Common.{arith}
+use Rattle.std.proofs.lemmas.Result.{on_ok_weaker}
 use Rattle.ct_offers.proofs.JuxtapositionLemmas.{tested_marked, tested_no_better}
 use Rattle.ct_offers.proofs.juxtaposition.mark_sum.Goals as goal
-
-pub returns-clause-tested : goal.returns-clause-tested
-returns-clause-tested c =
-    tested_marked c.args.bounds.now c.mark.new.self c.args.entry c.args.n c.args.d (c.in_ok-mark.ensures.marked)
 
 pub returns-then-is_marked-clause-tested : goal.returns-then-is_marked-clause-tested
 returns-then-is_marked-clause-tested c =
@@ -19,3 +16,10 @@ returns-then-min-plain_bound-clause-tested c =
     let no_more = c.if-min-plain_bound.true in
     tested_no_better c.args.bounds.now c.args.work.now c.args.entry c.args.n c.args.d c.requires.true_bounds
     (omega (arith, own, other, there, least, no_more))
+
+pub returns-clause-tested : goal.returns-clause-tested
+returns-clause-tested c =
+    on_ok_weaker c.mark.result (tested_marked c.args.bounds.now c.mark.new.self c.args.entry c.args.n c.args.d) c.mark.ensures.marked
+
+pub returns-clause-kept : goal.returns-clause-kept
+returns-clause-kept c = λ t entry marked. c.mark.ensures.kept t marked

@@ -26,3 +26,9 @@ returns-clause-tested c =
     (λ (tested : IsTestedAt supports bounds c.test.new.work c.given_rule-rule.result c.args.entry) rests.
     subst (λ (r : Rule). IsTestedAt supports bounds c.test.new.work r c.args.entry) c.given_rule-rule.ensures.rule tested)
     c.test.ensures.tested
+
+pub test-requires : goal.test-requires
+test-requires c = record { stand = c.requires.stand; true_bounds = c.requires.true_bounds }
+
+pub returns-clause-kept : goal.returns-clause-kept
+returns-clause-kept c = c.test.ensures.kept

@@ -50,3 +50,13 @@ returns-clause-tested c =
     tested_all c.args.supports.now c.args.bounds.now c.loop-next.work c.args.from c.args.entry c.args.places.now c.requires.places
     (subst (λ (o : Option ℕ). AreTestedAbove c.args.supports.now c.args.bounds.now c.loop-next.work c.args.from c.args.entry c.args.places.now o)
     c.in_default.is c.loop-next.invariant.1)
+
+pub mark_by_dual-requires : goal.mark_by_dual-requires
+mark_by_dual-requires c = record { stand = c.requires.stand; true_bounds = c.requires.true_bounds }
+
+pub returns-clause-kept : goal.returns-clause-kept
+returns-clause-kept c = c.loop-next.invariant.0
+
+pub returns-in_err-mark_by_dual-clause-kept : goal.returns-in_err-mark_by_dual-clause-kept
+returns-in_err-mark_by_dual-clause-kept c =
+    keeps-trans c.args.work.now c.loop-next.work c.mark_by_dual.new.work c.loop-next.invariant.0 c.in_err-mark_by_dual.ensures.kept

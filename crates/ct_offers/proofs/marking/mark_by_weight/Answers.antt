@@ -41,3 +41,24 @@ returns-else-w-entry-clause-tested c =
 pub returns-else-w-entry-clause-kept : goal.returns-else-w-entry-clause-kept
 returns-else-w-entry-clause-kept c =
     keeps-trans c.args.work.now c.test-in-Upper.new.work c.test-in-Upper-2.new.work c.in_ok-test-in-Upper.ensures.kept c.test-in-Upper-2.ensures.kept
+
+pub test-requires : goal.test-requires
+test-requires c = record { stand = c.requires.stand; true_bounds = c.requires.true_bounds }
+
+pub test-requires-in-Lower : goal.test-requires-in-Lower
+test-requires-in-Lower c = record { stand = c.requires.stand; true_bounds = c.requires.true_bounds }
+
+pub test-requires-in-Upper : goal.test-requires-in-Upper
+test-requires-in-Upper c = record { stand = c.requires.stand; true_bounds = c.requires.true_bounds }
+
+pub test-requires-in-Upper-2 : goal.test-requires-in-Upper-2
+test-requires-in-Upper-2 c = record { stand = c.requires.stand; true_bounds = c.requires.true_bounds }
+
+pub returns-then-w-entry-clause-kept : goal.returns-then-w-entry-clause-kept
+returns-then-w-entry-clause-kept c = c.in_ok-test-in-Upper.ensures.kept
+
+pub returns-in_err-test-in-Lower-clause-kept : goal.returns-in_err-test-in-Lower-clause-kept
+returns-in_err-test-in-Lower-clause-kept c = c.in_err-test-in-Lower.ensures.kept
+
+pub returns-in_err-test-in-Upper-clause-kept : goal.returns-in_err-test-in-Upper-clause-kept
+returns-in_err-test-in-Upper-clause-kept c = c.in_err-test-in-Upper.ensures.kept

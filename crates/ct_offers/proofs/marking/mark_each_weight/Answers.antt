@@ -28,3 +28,16 @@ loop-w-preserved c =
 
 pub returns-clause-tested : goal.returns-clause-tested
 returns-clause-tested c = λ w less. c.loop-w.invariant.1 w (omega (arith, less, c.loop-w-test.false))
+
+pub loop-w-init : goal.loop-w-init
+loop-w-init c = (λ t entry marked. marked, λ w below. absurd (omega (arith, below)))
+
+pub mark_by_duals-requires : goal.mark_by_duals-requires
+mark_by_duals-requires c = record { places = c.requires.places; stand = c.requires.stand; true_bounds = c.requires.true_bounds }
+
+pub returns-clause-kept : goal.returns-clause-kept
+returns-clause-kept c = c.loop-w.invariant.0
+
+pub returns-in_err-mark_by_duals-clause-kept : goal.returns-in_err-mark_by_duals-clause-kept
+returns-in_err-mark_by_duals-clause-kept c =
+    keeps-trans c.args.work.now c.loop-w.work c.mark_by_duals.new.work c.loop-w.invariant.0 c.in_err-mark_by_duals.ensures.kept

@@ -33,3 +33,19 @@ returns-clause-kept c =
     keeps-trans c.args.work.now c.mark_by_duals-2.new.work c.mark_each_weight.new.work
     (keeps-trans c.args.work.now c.mark_by_duals.new.work c.mark_by_duals-2.new.work c.in_ok-mark_by_duals.ensures.kept c.in_ok-mark_by_duals-2.ensures.kept)
     c.mark_each_weight.ensures.kept
+
+pub mark_by_duals-requires : goal.mark_by_duals-requires
+mark_by_duals-requires c = record { places = c.requires.places; stand = c.requires.stand; true_bounds = c.requires.true_bounds }
+
+pub mark_by_duals-requires-2 : goal.mark_by_duals-requires-2
+mark_by_duals-requires-2 c = record { places = c.requires.places; stand = c.requires.stand; true_bounds = c.requires.true_bounds }
+
+pub mark_each_weight-requires : goal.mark_each_weight-requires
+mark_each_weight-requires c = record { entry = c.requires.entry; places = c.requires.places; stand = c.requires.stand; true_bounds = c.requires.true_bounds }
+
+pub returns-in_err-mark_by_duals-2-clause-kept : goal.returns-in_err-mark_by_duals-2-clause-kept
+returns-in_err-mark_by_duals-2-clause-kept c =
+    keeps-trans c.args.work.now c.mark_by_duals.new.work c.mark_by_duals-2.new.work c.in_ok-mark_by_duals.ensures.kept c.in_err-mark_by_duals-2.ensures.kept
+
+pub returns-in_err-mark_by_duals-clause-kept : goal.returns-in_err-mark_by_duals-clause-kept
+returns-in_err-mark_by_duals-clause-kept c = c.in_err-mark_by_duals.ensures.kept

@@ -6,7 +6,7 @@ use Rattle.ct_rules.specs.Rule.{row_of}
 use Rattle.ct_slots.specs.Number.{bound_of}
 use Rattle.ct_offers.proofs.AskedLemmas.{weights_more_from}
 use Rattle.ct_offers.proofs.ByWeightLemmas.{weights_enough}
-use Rattle.ct_offers.proofs.PulledLemmas.{IsPulled-trans}
+use Rattle.ct_offers.proofs.PulledLemmas.{IsPulled-trans, IsPulled-refl}
 use Rattle.ct_offers.proofs.pulling.ask_lower_weights.Goals as goal
 
 pub loop-w-preserved : goal.loop-w-preserved
@@ -30,3 +30,12 @@ returns-clause-within c =
     let end = c.saturating_sub-w-end.ensures in
     weights_enough c.args.supports.now f c.args.entry c.loop-w.best.value c.div_ceil-half.result c.loop-w.w c.requires.true_bounds
     (omega (arith, better, some)) (omega (arith, half)) (omega (arith, end, c.loop-w-test.false)) c.loop-w.invariant.1
+
+pub loop-w-init : goal.loop-w-init
+loop-w-init c = (
+  IsPulled-refl c.args.supports.now (bound_of c.args.bounds.now) (Lower, c.args.entry) c.args.best.now,
+  λ w half below. absurd (omega (arith, half, below)),
+)
+
+pub returns-clause-pulled : goal.returns-clause-pulled
+returns-clause-pulled c = c.loop-w.invariant.0

@@ -11,3 +11,12 @@ pub returns-then-is_empty-clause-within : goal.returns-then-is_empty-clause-with
 returns-then-is_empty-clause-within c =
     none_within c.args.supports.now (bound_of c.args.bounds.now) (c.args.side, c.args.entry) c.args.best.now.value
     (eqb-true (length c.args.supports.now) 0 (sym c.is_empty.ensures ∙ c.if-is_empty.true))
+
+pub ask_each_support-requires : goal.ask_each_support-requires
+ask_each_support-requires c = record { entry = c.requires.entry; places = c.requires.places }
+
+pub returns-clause-pulled : goal.returns-clause-pulled
+returns-clause-pulled c = c.ask_each_support.ensures.pulled
+
+pub returns-clause-within : goal.returns-clause-within
+returns-clause-within c = c.ask_each_support.ensures.within

@@ -6,7 +6,7 @@ use Rattle.ct_rules.specs.Rule.{row_of}
 use Rattle.ct_slots.specs.Number.{bound_of}
 use Rattle.ct_offers.proofs.AskedLemmas.{weights_more}
 use Rattle.ct_offers.proofs.ByWeightLemmas.{odd_within}
-use Rattle.ct_offers.proofs.PulledLemmas.{IsPulled-trans}
+use Rattle.ct_offers.proofs.PulledLemmas.{IsPulled-trans, IsPulled-refl}
 use Rattle.ct_offers.proofs.pulling.ask_upper_weights.Goals as goal
 
 pub loop-w-preserved : goal.loop-w-preserved
@@ -27,3 +27,15 @@ returns-clause-within c = λ w within. c.loop-w.invariant.1 w (omega (arith, c.l
 pub returns-then-entry-eq1-clause-within : goal.returns-then-entry-eq1-clause-within
 returns-then-entry-eq1-clause-within c = λ w within.
     odd_within c.args.supports.now (bound_of c.args.bounds.now) c.args.entry c.args.best.now.value c.if-entry-eq1.true w
+
+pub loop-w-init : goal.loop-w-init
+loop-w-init c = (
+  IsPulled-refl c.args.supports.now (bound_of c.args.bounds.now) (Upper, c.args.entry) c.args.best.now,
+  λ w below. absurd (omega (arith, below)),
+)
+
+pub returns-clause-pulled : goal.returns-clause-pulled
+returns-clause-pulled c = c.loop-w.invariant.0
+
+pub returns-then-entry-eq1-clause-pulled : goal.returns-then-entry-eq1-clause-pulled
+returns-then-entry-eq1-clause-pulled c = IsPulled-refl c.args.supports.now (bound_of c.args.bounds.now) (Upper, c.args.entry) c.args.best.now
