@@ -2,7 +2,7 @@
 use Rattle.std.proofs.Common.{◌≡◌, ℕ, Bool, true, false, List, map, Option, Some, None, refl, sym, ap, ◌∙◌, arith, suc, ◌-◌, ◌++◌, ◌∷◌, [], ap₂, subst}
 use Rattle.std.specs.Prelude.{◌==◌, if◌then◌else◌}
 use Rattle.std.proofs.lemmas.Bool.Decides.{nat_tests}
-use Rattle.std.proofs.lemmas.Option.{none-some, cond_some}
+use Rattle.std.proofs.lemmas.Option.{none-some, same_Some, cond_some}
 use Rattle.ct_words.specs.declared.entry.Entry.{Entry}
 use Rattle.ct_words.specs.declared.claim.Claim.{Claim}
 use Rattle.ct_rule_parts.specs.declared.support.Support.{Support}
@@ -110,3 +110,28 @@ derivation_by supports lines c r numbers side none derivation =
     sym (ap (map (λ (n : ℕ). n - 1)) by.numbered ∙ places_again by.places) in
     derivation-push supports lines (line_by c r numbers) derivation
     (subst (λ (places : List ℕ). Follows supports lines (record { claim = c; rule = r; from = places })) same by.follows)
+
+-- the fault where the rule is defined: that of the premises, or of the value
+pub defined_fault : (supports : List Support) (before : List LineValue) (c : Claim) (r : Rule) (numbers : List ℕ) (entries : List Entry)
+    (values : Option (List ℕ)) → Some entries ≡ (if applies supports r c.entry then Some ((parts_over supports r).rests_on c.entry) else None)
+    → values ≡ values_numbered (rule_side r) before entries numbers → premise_fault supports c r values ≡ line_fault supports before c r numbers
+defined_fault supports before c r numbers entries values defined are = go (applies supports r c.entry) defined
+  where
+    go : (b : Bool) → Some entries ≡ (if b then Some ((parts_over supports r).rests_on c.entry) else None) → premise_fault supports c r values
+        ≡ (if b then premise_fault supports c r (values_numbered (rule_side r) before ((parts_over supports r).rests_on c.entry) numbers) else Some NoRule)
+    go true is =
+        ap (premise_fault supports c r)
+        (are ∙ ap (λ (es : List Entry). values_numbered (rule_side r) before es numbers) (same_Some entries ((parts_over supports r).rests_on c.entry) is))
+    go false is = absurd (none-some entries (sym is))
+
+-- and where it is not
+pub undefined_fault : (supports : List Support) (before : List LineValue) (c : Claim) (r : Rule) (numbers : List ℕ)
+    → None ≡ (if applies supports r c.entry then Some ((parts_over supports r).rests_on c.entry) else None)
+    → Some NoRule ≡ line_fault supports before c r numbers
+undefined_fault supports before c r numbers undefined = go (applies supports r c.entry) undefined
+  where
+    go : (b : Bool) → None ≡ (if b then Some ((parts_over supports r).rests_on c.entry) else None)
+        → Some NoRule
+        ≡ (if b then premise_fault supports c r (values_numbered (rule_side r) before ((parts_over supports r).rests_on c.entry) numbers) else Some NoRule)
+    go true is = absurd (none-some ((parts_over supports r).rests_on c.entry) is)
+    go false is = refl

@@ -7,5 +7,6 @@ pub mod NumberedLines
 pub mod CheckedLines
 pub mod ExplanationLaws
 pub mod NeededExist
+mod TextParts
 mod PlacesBelow
 mod ListedItems

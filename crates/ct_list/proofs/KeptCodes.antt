@@ -1,8 +1,8 @@
 -- The codes that are kept for lines: what stays where one is taken, and where one is put.
-use Rattle.std.proofs.Common.{◌≡◌, ℕ, zero, suc, ◌+◌, ◌-◌, ◌<◌, ◌≤◌, ◌==◌, ◌||◌, List, [], ◌∷◌, ◌++◌, length, take, drop, get_or, All, Option, Some, None, true, false, refl, sym, ap, subst, ◌∙◌, inl, inr, arith}
+use Rattle.std.proofs.Common.{◌≡◌, ℕ, zero, suc, ◌+◌, ◌-◌, ◌<◌, ◌≤◌, ◌==◌, ◌||◌, List, [], ◌∷◌, ◌++◌, length, take, drop, get_or, All, Option, Some, None, Result, Ok, Err, IfOk, true, false, refl, sym, ap, subst, ◌∙◌, inl, inr, arith}
 use Rattle.std.specs.Prelude.{Bool, if◌then◌else◌, ◌≢◌, slice_get, slice_set}
 use Rattle.std.proofs.lemmas.Bool.{or_parts, eqb-false, cases_lt}
-use Rattle.std.proofs.lemmas.Option.{slice_get_within, same_Some}
+use Rattle.std.proofs.lemmas.Option.{slice_get_within, slice_get_read, same_Some}
 use Rattle.std.proofs.Math.Seq.{drop-cons}
 use Rattle.std.proofs.lemmas.List.{length-set, length-append, length-drop, take_all}
 use Rattle.std.proofs.lemmas.List.Elements.{All-nil, All-cons, All-head, All-tail, All-append}
@@ -145,3 +145,20 @@ named_from lines i l at = go lines i at
     go (m ∷ ls) (suc k) at =
         let next : suc k + 1 ≡ suc (k + 1) = omega arith in
         go ls k at ∙ ap (λ j. l.from ++ named_by (drop j (m ∷ ls))) (sym next)
+
+-- what is read where a code is kept is what stands there, and no code is wanting
+pub read_kept : (kept : List (Option CodeValue)) (p : ℕ) (c : CodeValue) (o : Option CodeValue) → slice_get kept p ≡ Some (Some c) → o ≡ get_or kept p o
+    → slice_get kept p ≡ Some o
+read_kept kept p c o at is = slice_get_read kept (length kept) p o refl (slice_get_within kept p (Some c) at) is
+
+pub not_none : (kept : List (Option CodeValue)) (p : ℕ) (c : CodeValue) (o : Option CodeValue) → slice_get kept p ≡ Some (Some c) → o ≡ get_or kept p o
+    → o ≡ None → ⊥
+not_none kept p c o at is none =
+    let some : ◌≡◌ {A = Option CodeValue} (Some c) None = same_Some (Some c) o (sym at ∙ read_kept kept p c o at is) ∙ none in
+    absurd cc
+
+-- a copy of the code that stands there
+pub copied : {E : Type 0} (kept : List (Option CodeValue)) (p : ℕ) (c : CodeValue) (r : Result CodeValue E) → slice_get kept p ≡ Some (Some c)
+    → IfOk r (λ (copy : CodeValue). copy ≡ c) → IfOk r (λ (copy : CodeValue). slice_get kept p ≡ Some (Some copy))
+copied kept p c (Ok copy) at same = at ∙ ap (λ (d : CodeValue). Some (Some d)) (sym same)
+copied kept p c (Err fault) at same = tt

@@ -1,5 +1,6 @@
 mod Making
 mod RowCodes
+mod PartCodes
 mod KeptCodes
 mod LowerLines
 mod Following

@@ -58,11 +58,11 @@ juxtaposition-right m k e first second parts =
     }
 
 -- the condition of L8
-record IsTwice (e : Entry) : Type 0 where
-  plain : Weightless e
-  even : 2 * (e.n / 2) ≡ e.n
+pub record IsTwice (e : Entry) : Type 0 where
+  pub plain : Weightless e
+  pub even : 2 * (e.n / 2) ≡ e.n
 
-twice : (e : Entry) → uuv.condition e ≡ true → IsTwice e
+pub twice : (e : Entry) → uuv.condition e ≡ true → IsTwice e
 twice e condition =
     let both = and_parts (not (has_weight e)) (e.n % 2 == 0) condition in
     let even = eqb-true (e.n % 2) 0 both.1 in
@@ -91,7 +91,7 @@ far_sums-right e first second far parts =
     }
 
 -- the weight of an entry that has one
-weight_of_entry : (e : Entry) → has_weight e ≡ true → e.w ≡ Some (weight_of e)
+pub weight_of_entry : (e : Entry) → has_weight e ≡ true → e.w ≡ Some (weight_of e)
 weight_of_entry e has = weight_is e (a_weight e has)
 
 -- M7: each digit turned

@@ -2,7 +2,7 @@
 use Rattle.std.proofs.Common.{◌≡◌, ℕ, ◌+◌, ◌-◌, ◌<◌, ◌≤◌, List, [], ◌∷◌, ◌++◌, length, take, drop, All, Option, Some, Result, Ok, Err, IfOk, sym, ap, subst, ◌∙◌, arith}
 use Rattle.std.specs.Prelude.{slice_get, option_map, OnOk}
 use Rattle.std.proofs.lemmas.List.{length-take-le, length-append}
-use Rattle.std.proofs.lemmas.Option.{slice_get_within}
+use Rattle.std.proofs.lemmas.Option.{slice_get_within, same_Some}
 use Rattle.ct_words.specs.declared.entry.Entry.{Entry}
 use Rattle.ct_words.specs.declared.claim.Side.TheVariants.{Lower}
 use Rattle.ct_words.specs.declared.claim.Claim.{Claim}
@@ -14,6 +14,7 @@ use Rattle.ct_rules.specs.Rule.{rule_side, parts_over}
 use Rattle.ct_rules.specs.Derivation.{LineValue, IsBest}
 use Rattle.ct_table.specs.Table.{TableValue}
 use Rattle.ct_derive.specs.Explanation.{IsExplanation}
+use Rattle.ct_derive.proofs.PrunedLines.{some_at}
 use Rattle.ct_derive.proofs.ClaimedLines.{line_with_claim}
 use Rattle.ct_derive.specs.Listed.{IsListedCode}
 use Rattle.ct_list.specs.Inside.Kept.{IsCodeFor, AreCodesFor, AreKept, named_by}
@@ -125,3 +126,14 @@ listed old supports e v c best same code sound = record {
   sound = sound;
   best = subst (IsBest supports (Lower, e)) (sym code.size) (subst (λ (s : List Support). IsBest s (Lower, e) v) same best);
 }
+
+-- a code for the last line is one for what is explained
+pub last_code_here : {E : Type 0} (supports : List Support) (e : Entry) (v : ℕ) (lines : List LineValue) (r : Result CodeValue E)
+    → IsExplanation supports (Lower, e) v lines → ((l : LineValue) → slice_get lines (length lines - 1) ≡ Some l → IfOk r (IsCodeFor l.claim))
+    → IfOk r (IsCodeFor (claim_at (Lower, e) v))
+last_code_here supports e v lines r explained known =
+    let some = some_lines supports e v lines explained in
+    let last = some_at lines (length lines - 1) (omega (arith, some)) in
+    let claim =
+    same_Some last.0.claim (claim_at (Lower, e) v) (sym (ap (option_map (λ (m : LineValue). m.claim)) last.1) ∙ explained.ends) in
+    subst (λ (claimed : Claim). IfOk r (IsCodeFor claimed)) claim (known last.0 last.1)

@@ -1,14 +1,11 @@
-use Rattle.std.proofs.Common.{◌≡◌, ◌++◌, ℕ, List, [], ◌∷◌, append_assoc, ap, ◌∙◌}
+use Rattle.std.proofs.Common.{◌≡◌, ◌++◌, ℕ, List, [], ◌∷◌, ap, ◌∙◌}
 use Rattle.std.specs.Prelude.{codes}
 use Rattle.ct_text.specs.declared.document_lines.TheConstants.{LINE_FEED}
 use Rattle.ct_text.specs.DocumentLines.{line_count}
 use Rattle.ct_text.specs.Number.{spaced}
 use Rattle.ct_derive.specs.Text.{evidence_text}
+use Rattle.ct_derive.proofs.TextParts.{onto}
 use Rattle.ct_derive.proofs.text.put_evidence.Goals as goal
-
--- a text after a text
-onto : (t a b u v : List ℕ) → u ≡ t ++ a → v ≡ u ++ b → v ≡ t ++ (a ++ b)
-onto t a b u v first second = second ∙ ap (λ x. x ++ b) first ∙ append_assoc t a b
 
 -- the parts of a block, one after another
 block : (t id document t1 t2 t3 t4 t5 t6 t7 word : List ℕ) (n : ℕ) → word ≡ id → n ≡ line_count document → t1 ≡ t ++ codes "evidence "

@@ -1,4 +1,4 @@
-use Rattle.std.proofs.Common.{◌+◌, ◌<◌, ◌++◌, ◌||◌, length, take, drop, get_or, List, sym, ap, subst, ◌∙◌, arith, take_all}
+use Rattle.std.proofs.Common.{◌+◌, ◌<◌, ◌++◌, ◌||◌, length, take, drop, get_or, List, [], refl, sym, ap, subst, ◌∙◌, arith, take_all}
 use Rattle.ct_words.specs.Constructions.Places.{is_among}
 use Rattle.ct_words.specs.Code.{CodeValue}
 use Rattle.ct_list.specs.Inside.Kept.{AreCodesFor, AreKept, named_by, is_named}
@@ -49,3 +49,12 @@ pub returns-clause-codes : goal.returns-clause-codes
 returns-clause-codes c = λ lines start.
     subst (λ ps. AreCodesFor lines ps c.loop-k.codes.items) (take_all c.loop-k.k c.args.from.now (omega (arith, c.loop-k-test.false)))
     (c.loop-k.invariant.1 lines start).1
+
+pub loop-k-init : goal.loop-k-init
+loop-k-init c = (
+  refl,
+  λ lines start. (start, subst (λ (codes : List CodeValue). AreCodesFor lines [] codes) (sym c.in_ok-codes.ensures.items) tt),
+)
+
+pub returns-clause-size : goal.returns-clause-size
+returns-clause-size c = c.loop-k.invariant.0

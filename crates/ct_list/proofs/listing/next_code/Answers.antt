@@ -1,4 +1,4 @@
-use Rattle.std.proofs.Common.{◌+◌, ◌<◌, All, drop, IfOk, refl, sym, subst, ◌∙◌}
+use Rattle.std.proofs.Common.{◌≡◌, ◌+◌, ◌<◌, All, length, drop, IfOk, refl, sym, subst, ◌∙◌}
 use Rattle.std.proofs.lemmas.Option.{slice_get_read, same_Some}
 use Rattle.ct_rules.specs.Derivation.{LineValue}
 use Rattle.ct_pieces.specs.Supports.{supports_of}
@@ -71,3 +71,7 @@ returns-clause-kept c =
     on_ok (AreKept lines kept (named_by (drop (c.args.place + 1) lines))) c.code_by_rule.result
     (kept_later lines kept (c.args.place + 1)
     (c.in_ok-codes.ensures.kept lines (kept_here lines c.args.kept.now.items c.args.place _ at c.requires.kept)))
+
+pub returns-clause-size : goal.returns-clause-size
+returns-clause-size c =
+    on_ok (length c.take_codes.new.kept.items ≡ c.args.place) c.code_by_rule.result (c.in_ok-codes.ensures.size ∙ c.requires.next)
