@@ -21,7 +21,7 @@ unfolding read_next
 failed_at_done r k text is = ap (λ (p : Part). read_in p r k text) (sym is)
 
 -- a line is one word alone where its first two words are
-only_of_two : (name : List ℕ) (words : List (List ℕ)) → is_only name (take 2 words) ≡ is_only name words
+pub only_of_two : (name : List ℕ) (words : List (List ℕ)) → is_only name (take 2 words) ≡ is_only name words
 only_of_two name [] = refl
 only_of_two name (word ∷ []) = refl
 only_of_two name (word ∷ next ∷ words) = refl

@@ -1,5 +1,8 @@
 mod RuleSides
 mod WordLemmas
 mod FailedLines
+mod LineSteps
+mod LimitLemmas
+mod StatedSteps
 pub mod ReadingLemmas
 pub mod VerdictLemmas

@@ -20,6 +20,10 @@ use Rattle.ct_text.specs.Side.{side_of_word}
 use Rattle.ct_verify.specs.StatedLine.{StatedLineValue, entry_of_words, bound_of_word, premises_of_words, claim_of, line_from, with_rule, with_reason, with_value, line_of}
 use Rattle.ct_verify.specs.declared.stated_rule.StatedRule.{StatedRule}
 
+-- nothing is not something
+nothing : {X : Type 0} (x : X) → None ≡ Some x → ⊥
+nothing x h = absurd cc
+
 -- where something comes of it, there was something
 mapped : {X Y : Type 0} (f : X → Y) (o : Option X) (y : Y) → option_map f o ≡ Some y → (x : X) × (f x ≡ y)
 mapped f None y h = absurd cc
@@ -82,15 +86,13 @@ with_reason-side number (Some claim) (word ∷ name ∷ words) l h = at (bytes_e
   at false e = absurd cc
 
 with_value-side : (number side : List ℕ) (entry words : List (List ℕ)) (l : StatedLineValue) → with_value number side entry words ≡ Some l → HasItsSide l
-with_value-side number side entry [] l h = absurd cc
-with_value-side number side entry (word ∷ []) l h = absurd cc
+with_value-side number side entry [] l h = absurd (nothing l h)
+with_value-side number side entry (word ∷ []) l h = absurd (nothing l h)
 with_value-side number side entry (word ∷ value ∷ words) l h = at (bytes_eq word (codes "value")) h where
-  claim : Option Claim
-  claim = claim_of (side_of_word side) (entry_of_words entry) (bound_of_word value)
-
-  at : (b : Bool) → cond b (with_reason (number_of number) claim words) None ≡ Some l → HasItsSide l
-  at true e = with_reason-side (number_of number) claim words l e
-  at false e = absurd cc
+  at : (b : Bool) → cond b (with_reason (number_of number) (claim_of (side_of_word side) (entry_of_words entry) (bound_of_word value)) words) None ≡ Some l
+      → HasItsSide l
+  at true e = with_reason-side (number_of number) (claim_of (side_of_word side) (entry_of_words entry) (bound_of_word value)) words l e
+  at false e = absurd (nothing l e)
 
 -- the rule of a stated line is of the side of its claim
 pub line_of-side : (words : List (List ℕ)) (l : StatedLineValue) → line_of words ≡ Some l → HasItsSide l

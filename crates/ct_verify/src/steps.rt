@@ -8,7 +8,7 @@ ghost use Rattle.ct_pieces.specs.Submission.{submitted};
 ghost use Rattle.ct_verify.specs.Heading.{heading_of};
 ghost use Rattle.ct_verify.specs.StatedLine.{StatedLineValue, line_of};
 ghost use Rattle.ct_verify.specs.Read.{unread};
-ghost use Rattle.ct_verify.specs.Inside.Steps.{step_of};
+ghost use Rattle.ct_verify.specs.Inside.Steps.{step_of, is_end};
 ghost use Rattle.ct_verify.specs.Reading.{why_of, by_rule, read_line, read_heading, is_only, read_body, after_block, read_block, read_next};
 ghost use Rattle.ct_verify.specs.Verdict.{ended};
 
@@ -158,6 +158,13 @@ impl Reading {
         }
     }
 
+    /// Whether the words end the document: `done`, after a line.
+    fn is_end(&self, words: &[&[u8]]) -> bool
+        ensures { result ≡ is_end self.now (map (λ word. word.now) words.now) }
+    {
+        is_only(b"done", words) && !self.lines.is_empty()
+    }
+
     /// After the text line of these words, where blocks of evidence, lines, or the end may stand.
     fn read_body(
         &mut self,
@@ -177,7 +184,7 @@ impl Reading {
         if *word == b"evidence".as_slice() {
             return Ok(self.read_heading(alloc, number, parse_heading(rest)));
         }
-        if is_only(b"done", words) && !self.lines.is_empty() {
+        if self.is_end(words) {
             self.part = Part::Done;
             return Ok(None);
         }

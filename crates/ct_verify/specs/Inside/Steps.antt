@@ -1,6 +1,7 @@
 -- How a text line was read.
-use Rattle.std.specs.Prelude.{Option, Some, None}
+use Rattle.std.specs.Prelude.{ℕ, ◌==◌, ◌&&◌, not, Bool, List, length, Option, Some, None, codes}
 use Rattle.ct_verify.specs.Read.{ReadingValue}
+use Rattle.ct_verify.specs.Reading.{is_only}
 use Rattle.ct_verify.specs.Step.{Step, On, Failed}
 use Rattle.ct_verify.specs.declared.failure.Failure.{Failure}
 
@@ -8,3 +9,7 @@ use Rattle.ct_verify.specs.declared.failure.Failure.{Failure}
 abbrev pub step_of : Option Failure → ReadingValue → Step
 step_of None r = On r
 step_of (Some failure) r = Failed failure.line failure.why
+
+-- whether words end the document: `done`, after a line
+abbrev pub is_end : ReadingValue → List (List ℕ) → Bool
+is_end r words = is_only (codes "done") words && not (length r.lines == 0)

@@ -1,4 +1,5 @@
-use Rattle.std.proofs.Common.{ℕ, List, ◌++◌, drop, map, option_map, sym, ap, ◌∙◌, ◌+◌}
+use Rattle.std.proofs.Common.{ℕ, Bor, List, ◌++◌, drop, map, append-nil, Some, option_map, sym, ap, ◌∙◌, ◌+◌}
+use Rattle.std.proofs.lemmas.List.{drop_all}
 use Rattle.ct_verify.specs.StatedLine.{all_numbers}
 use Rattle.ct_verify.proofs.WordLemmas.{numbers-next, numbers-push}
 use Rattle.ct_verify.proofs.stated_line.parse_numbers.Goals as goal
@@ -17,3 +18,10 @@ loop-word-preserved c =
     (numbers-next c.args.words.now c.loop-word.word-index _ _ (sym c.in-Some.is ∙ c.parse_number.ensures) c.loop-word-test.true)
     ∙ numbers-push c.loop-word.numbers.items c.in-Some.number rest
     ∙ ap (λ (so_far : List ℕ). option_map (λ (more : List ℕ). so_far ++ more) (all_numbers (map (λ word. word.now) (drop (c.loop-word.word-index + 1) c.args.words.now)))) (sym c.in_ok-push.ensures.items)
+
+pub returns : goal.returns
+returns c =
+    ap Some (sym (append-nil c.loop-word.numbers.items))
+    ∙ ap (λ (left : List (Bor (List ℕ))). option_map (λ (more : List ℕ). c.loop-word.numbers.items ++ more) (all_numbers (map (λ word. word.now) left)))
+    (sym (drop_all c.loop-word.word-index c.args.words.now c.loop-word-test.false))
+    ∙ sym c.loop-word.invariant
