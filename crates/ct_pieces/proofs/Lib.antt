@@ -16,3 +16,4 @@ mod LeftOut
 mod AlongPass
 mod BuildPlaces
 mod Putting
+mod PutItems

@@ -1,16 +1,18 @@
-use Rattle.std.proofs.Common.{◌≡◌, ◌≢◌, ◌<◌, ℕ, List, length, Option, Some, None, is_some, false, IfOk, IfErr, OnOk, sym, ap, subst, ◌∙◌, arith, rules}
+use Rattle.std.proofs.Common.{◌≡◌, ◌≢◌, ◌<◌, ◌+◌, ◌*◌, ℕ, List, length, take}
+use Rattle.std.proofs.Common.{Option, Some, None, is_some, false, IfOk, IfErr, OnOk, refl, sym, ap, subst, ◌∙◌, arith, rules}
 use Rattle.std.specs.Prelude.{IfSome, vec_len}
 use Rattle.std.proofs.lemmas.List.{get_or_default, get_or-set_same}
 use Rattle.ct_words.specs.Code.{CodeValue}
 use Rattle.ct_kind.specs.declared.evidence.Evidence.{Evidence}
 use Rattle.ct_kind.specs.declared.fault.SubmitFault.{SubmitFault}
 use Rattle.ct_kind.specs.declared.fault.SubmitFault.TheVariants as fault
-use Rattle.ct_pieces.specs.Piece.{place_of}
+use Rattle.ct_pieces.specs.Piece.{PieceValue, place_of}
 use Rattle.ct_files.specs.ByKind.{is_kept}
 use Rattle.ct_pieces.specs.Inside.Kept.{kept_codes, code_there, code_found, other_place}
 use Rattle.ct_pieces.proofs.KeptLemmas.{kept-all, kept-some, kept-set, kept-grows, kept-trans}
-use Rattle.ct_pieces.proofs.PartLemmas.{placed, none-from}
+use Rattle.ct_pieces.proofs.PartLemmas.{placed, none-from, found-before}
 use Rattle.ct_pieces.proofs.BuildPlaces.{kept-within, kept-long, build-placed, build-there, none-there, part-within, other-within, found-code, found-coded, stays-found}
+use Rattle.ct_pieces.proofs.builds.+keeping.Invariants.{depth}
 use Rattle.ct_pieces.proofs.builds.+keeping.Goals as goal
 
 pub keep_code-index-requires : goal.keep_code-index-requires
@@ -161,3 +163,55 @@ make_code-returns-clause-fault t c =
     let two = ap (code_found ps) (c.other_place-other.ensures ∙ ap (other_place b.other) before) in
     let said = found-code ps c.args.place b.entry b.step.now b.part b.other (code_found ps c.place_of-part.result) (code_found ps c.other_place-other.result) one two in
     subst (λ (reason : Option SubmitFault). IfErr c.code_of_parts.result (λ f. f ≢ fault.Memory → reason ≡ Some f)) (sym said.1) c.code_of_parts.ensures.fault
+
+pub make_code-returns-clause-kept : goal.make_code-returns-clause-kept
+make_code-returns-clause-kept t c = c.keep_found-2.ensures.kept
+
+pub keep_code-returns-in_default-make_code-clause-kept : goal.keep_code-returns-in_default-make_code-clause-kept
+keep_code-returns-in_default-make_code-clause-kept t c = c.make_code.ensures.kept
+
+pub keep_code-returns-in_default-make_code-clause-stay : goal.keep_code-returns-in_default-make_code-clause-stay
+keep_code-returns-in_default-make_code-clause-stay t c = c.make_code.ensures.stay
+
+pub make_code-code_of_parts-requires-clause-made : goal.make_code-code_of_parts-requires-clause-made
+make_code-code_of_parts-requires-clause-made t c = c.requires.made
+
+pub make_code-code_of_parts-requires-clause-fits : goal.make_code-code_of_parts-requires-clause-fits
+make_code-code_of_parts-requires-clause-fits t c = c.requires.fits
+
+-- the parts stand before the place
+part-below : (id : List ℕ) (ps : List PieceValue) (k : ℕ) → depth (place_of id (take k ps)) < 3 * k + 1
+part-below id ps k = at (place_of id (take k ps)) (λ i is. (found-before id ps k i is).0) where
+  at : (o : Option ℕ) → ((i : ℕ) → o ≡ Some i → i < k) → depth o < 3 * k + 1
+  at None h = omega arith
+  at (Some i) h = let below = h i refl in omega arith
+
+other-below : (other : Option (List ℕ)) (ps : List PieceValue) (k : ℕ) → depth (other_place other (take k ps)) < 3 * k + 1
+other-below None ps k = omega arith
+other-below (Some id) ps k = part-below id ps k
+
+pub make_code-keep_found-requires : goal.make_code-keep_found-requires
+make_code-keep_found-requires t c =
+    let ps = c.args.pieces.now in
+    let id = c.args.build.now.part in
+    let before = sym (c.place_of-part.ensures ∙ ap (place_of id) c.pieces_before-before.ensures) in
+    let within = subst (λ (found : Option ℕ). IfSome found (λ (i : ℕ). i < length ps)) before (part-within id ps c.args.place) in
+    let below = subst (λ (found : Option ℕ). depth found < 3 * c.args.place + 1) before (part-below id ps c.args.place) in
+    let at = c.decreases in
+    (omega (arith, below, at), (c.requires.made, (c.requires.kept, within)))
+
+pub make_code-keep_found-requires-2 : goal.make_code-keep_found-requires-2
+make_code-keep_found-requires-2 t c =
+    let ps = c.args.pieces.now in
+    let id = c.args.build.now.other in
+    let before = sym (c.other_place-other.ensures ∙ ap (other_place id) c.pieces_before-before.ensures) in
+    let within = subst (λ (found : Option ℕ). IfSome found (λ (i : ℕ). i < length ps)) before (other-within id ps c.args.place) in
+    let below = subst (λ (found : Option ℕ). depth found < 3 * c.args.place + 1) before (other-below id ps c.args.place) in
+    let at = c.decreases in
+    (omega (arith, below, at), (c.requires.made, (c.in_ok-keep_found.ensures.kept, within)))
+
+pub keep_found-keep_code-requires : goal.keep_found-keep_code-requires
+keep_found-keep_code-requires t c =
+    let at = rw c.in-Some.is at c.decreases in
+    let within = rw c.in-Some.is at c.requires.place in
+    (omega (arith, at), (c.requires.made, (c.requires.kept, within)))

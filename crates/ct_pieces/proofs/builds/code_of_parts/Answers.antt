@@ -26,3 +26,9 @@ returns-clause-fault c =
     let b = c.args.build.now in
     let is = ap₂ (step_reason b.entry b.step.now b.part b.other) c.in_ok-part_code.ensures c.in_ok-other_code.ensures in
     subst (λ (reason : Option SubmitFault). IfErr c.code_of_found.result (λ f. f ≢ fault.Memory → reason ≡ Some f)) is c.code_of_found.ensures.fault
+
+pub code_found-requires-2-clause-long : goal.code_found-requires-2-clause-long
+code_found-requires-2-clause-long c = c.requires.long
+
+pub code_of_found-requires-clause-fits : goal.code_of_found-requires-clause-fits
+code_of_found-requires-clause-fits c = c.requires.fits

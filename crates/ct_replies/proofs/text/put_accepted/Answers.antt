@@ -1,4 +1,5 @@
 use Rattle.ct_text.proofs.GrowingTexts.{puts-four, Grows-trans, Grows-stays}
+use Rattle.ct_replies.proofs.Puts.{Grows-none}
 use Rattle.ct_replies.proofs.text.put_accepted.Goals as goal
 
 pub returns-clause-ok : goal.returns-clause-ok
@@ -17,3 +18,6 @@ returns-in_err-put_size-clause-grown c = Grows-trans _ _ _ (Grows-trans _ _ _ (_
 
 pub returns-in_err-push-clause-grown : goal.returns-in_err-push-clause-grown
 returns-in_err-push-clause-grown c = Grows-stays _ _ _ (Grows-trans _ _ _ (Grows-trans _ _ _ (_, c.in_ok-extend_from_slice.ensures.items) (_, c.in_ok-extend_from_slice-2.ensures.items)) c.in_ok-put_size.ensures.grown) c.in_err-push.ensures.items
+
+pub returns-in_err-extend_from_slice-clause-grown : goal.returns-in_err-extend_from_slice-clause-grown
+returns-in_err-extend_from_slice-clause-grown c = Grows-none _ _ c.in_err-extend_from_slice.ensures.items

@@ -1,6 +1,7 @@
 use Rattle.std.proofs.Common.{ℕ, ◌++◌, ap, ◌∙◌}
 use Rattle.std.specs.Fmt.{decimal}
 use Rattle.ct_text.proofs.GrowingTexts.{puts-five, Grows-trans, Grows-stays}
+use Rattle.ct_replies.proofs.Puts.{Grows-none}
 use Rattle.ct_replies.proofs.text.put_withdrawn_all.Goals as goal
 
 pub returns-clause-ok : goal.returns-clause-ok
@@ -32,3 +33,6 @@ returns-in_err-push-clause-grown c =
     Grows-stays _ _ _
     (Grows-trans _ _ _ (Grows-trans _ _ _ (Grows-trans _ _ _ (_, c.in_ok-extend_from_slice.ensures.items) (_, c.in_ok-extend_from_slice-2.ensures.items)) (_, c.in_ok-extend_from_slice-3.ensures.items))
     c.in_ok-put_number.ensures.grown) c.in_err-push.ensures.items
+
+pub returns-in_err-extend_from_slice-clause-grown : goal.returns-in_err-extend_from_slice-clause-grown
+returns-in_err-extend_from_slice-clause-grown c = Grows-none _ _ c.in_err-extend_from_slice.ensures.items

@@ -1,4 +1,4 @@
-use Rattle.std.proofs.Common.{◌∙◌, inr}
+use Rattle.std.proofs.Common.{◌∙◌, inr, inl}
 use Rattle.std.proofs.lemmas.Result.{err_from_is_err_and}
 use Rattle.ct_session.proofs.Gathering.{kept_one}
 use Rattle.ct_session.proofs.Answering.{line_taken}
@@ -21,3 +21,6 @@ returns-in_err-put_answer-clause-broken_off g c =
     let stops = rw (c.deref-2.ensures.value, c.answers.ensures) at c.in_err-put_answer.ensures in
     let p = err_from_is_err_and c.from_residual.result c.from_residual.ensures.1 in
     rw p.1 (inr (_, takes, p.2, stops))
+
+pub returns-in_default-clause-broken_off : goal.returns-in_default-clause-broken_off
+returns-in_default-clause-broken_off g c = inl c.break_off.ensures

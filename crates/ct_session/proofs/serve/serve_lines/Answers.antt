@@ -1,4 +1,5 @@
-use Rattle.std.proofs.Common.{rules, refl}
+use Rattle.std.proofs.Common.{refl}
+use Rattle.std.proofs.lemmas.Result.{err_from_is_err_and}
 use Rattle.ct_session.proofs.Serving.{begins}
 use Rattle.ct_session.proofs.Endings.{ends_at_once}
 use Rattle.ct_session.proofs.serve.serve_lines.Goals as goal
@@ -14,8 +15,8 @@ lines-init g c = rw (c.in-Ok.ensures, c.in-Ok-new.ensures, c.new-session.ensures
 
 pub returns-in_err-serve_line : goal.returns-in_err-serve_line
 returns-in_err-serve_line g c =
-    let ends = c.in_err-serve_line.ensures _ c.lines.invariant in
-    search rules
+    let p = err_from_is_err_and c.from_residual.result c.from_residual.ensures.1 in
+    rw (p.1, p.2) (c.in_err-serve_line.ensures _ c.lines.invariant)
 
 pub lines-preserved : goal.lines-preserved
 lines-preserved g c = let step = rw c.in-Line.is at c.in_ok-serve_line.ensures in (step _ c.lines.invariant).0

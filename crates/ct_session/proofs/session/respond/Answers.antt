@@ -18,3 +18,9 @@ pub returns-in-Long-clause-reply : goal.returns-in-Long-clause-reply
 returns-in-Long-clause-reply g c =
     let is = rw c.in-Long.is at c.in_ok-reply.ensures.reply in
     long_answers (g.A.Answers.standing c.args.answers.now) (g.A.Answers.standing c.answer.new.self) c.args.command c.in-Long.reply c.args.replies.now.items is
+
+pub returns-in_ok-put_reply-in-Short-clause-pieces : goal.returns-in_ok-put_reply-in-Short-clause-pieces
+returns-in_ok-put_reply-in-Short-clause-pieces g c = c.in_ok-reply.ensures.pieces
+
+pub returns-in-Long-clause-pieces : goal.returns-in-Long-clause-pieces
+returns-in-Long-clause-pieces g c = c.in_ok-reply.ensures.pieces

@@ -6,3 +6,6 @@ use Rattle.ct_pieces.proofs.pieces.Pieces.pieces.Goals as goal
 
 pub returns-clause-sizes : goal.returns-clause-sizes
 returns-clause-sizes c = AreStanding-true _ (subst (λ (ps : List PieceValue). AreStanding ps) c.self.view_is c.self.invariant.0)
+
+pub returns-clause-standing : goal.returns-clause-standing
+returns-clause-standing c = subst (λ (ps : List PieceValue). AreStanding ps) c.self.view_is c.self.invariant.0

@@ -99,3 +99,14 @@ returns-clause-standing c =
     c.new-piece.result c.kind_of.result.entry c.self.view_is c.self.invariant.0 c.self.invariant.1 c.requires.read c.requires.named c.requires.free c.requires.room said.check said.total
     said.few c.new-piece.ensures c.kind_of.ensures.entry pushed in
     put.standing
+
+pub push_reserved-requires : goal.push_reserved-requires
+push_reserved-requires c = c.in_ok-checked.ensures.piece_room
+
+pub push_reserved-requires-2 : goal.push_reserved-requires-2
+push_reserved-requires-2 c = c.in_ok-checked.ensures.code_room
+
+pub returns-in_err-checked-clause-unchanged : goal.returns-in_err-checked-clause-unchanged
+returns-in_err-checked-clause-unchanged c =
+    let p = err_from_is_err_and c.from_residual.result c.from_residual.ensures.1 in
+    rw p.1 (c.accept.ensures.pieces ∙ c.self.view_is)

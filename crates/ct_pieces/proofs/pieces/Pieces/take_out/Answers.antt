@@ -45,3 +45,6 @@ returns-clause-left c =
     let free = subst (λ (ps : List PieceValue). option_map (λ (p : PieceValue). p.id) (first_user c.args.id ps) ≡ None) (sym c.self.view_is) c.requires.free in
     subst (λ (ps : List PieceValue). withdrawn ps c.args.id ≡ Ok c.take_at.new.pieces.items) c.self.view_is
     (withdrawn-left c.args.id items place c.self.invariant.0.different is free ∙ ap Ok (sym c.take_at.ensures.pieces))
+
+pub returns-clause-pieces : goal.returns-clause-pieces
+returns-clause-pieces c = c.take_at.ensures.pieces ∙ ap (λ (ps : List PieceValue). remove ps c.args.place) c.self.view_is

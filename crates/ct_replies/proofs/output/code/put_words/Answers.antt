@@ -1,4 +1,6 @@
-use Rattle.std.proofs.Common.{rules, arith, ℕ, ◌+◌, ◌-◌, ◌≡◌, sym, subst, ap, ◌∙◌, take, drop}
+use Rattle.std.proofs.Common.{arith, ℕ, ◌+◌, ◌-◌, ◌++◌, ◌^◌, ◌<◌, ◌≡◌, List, sym, subst, ap, ◌∙◌, take, drop, take_all}
+use Rattle.std.proofs.lemmas.Result.{err_from_is_err_and}
+use Rattle.std.proofs.lemmas.List.Elements.{All-take, All-drop}
 use Rattle.ct_words.specs.Text.{word_text}
 use Rattle.ct_io.specs.Buffered.{Puts, Stops}
 use Rattle.ct_io.proofs.BufferedLemmas.{puts_then, stops_sooner, stops_then}
@@ -12,9 +14,13 @@ returns-in_err-put_lines g c =
     let words = c.args.words.now in
     let line_of = λ (x : ℕ). ended (word_text c.args.n x) in
     let count = c.min-end.result - start in
+    let before = word_lines c.args.n (take start words) in
+    let some = word_lines c.args.n (take count (drop start words)) in
     let rest = word_lines c.args.n (drop count (drop start words)) in
-    let stops = subst (Stops _ _) (sym (some_all line_of words start count)) (stops_then _ _ _ _ _ c.loop-start.invariant.0 (stops_sooner _ _ _ rest c.in_err-put_lines.ensures.put)) in
-    search rules
+    let stops = subst (Stops _ _) (sym (some_all line_of words start count))
+    (stops_then _ _ _ before (some ++ rest) c.loop-start.invariant.0 (stops_sooner _ _ some rest c.in_err-put_lines.ensures.put)) in
+    let p = err_from_is_err_and c.from_residual.result c.from_residual.ensures.1 in
+    rw p.1 stops
 
 pub loop-start-preserved : goal.loop-start-preserved
 loop-start-preserved g c =
@@ -30,3 +36,14 @@ loop-start-preserved g c =
           (puts_then _ _ _ _ _ c.loop-start.invariant.0 c.in_ok-put_lines.ensures.put),
       omega (arith, least),
     )
+
+pub put_lines-requires-clause-words : goal.put_lines-requires-clause-words
+put_lines-requires-clause-words g c =
+    let start = c.loop-start.start in
+    let words = c.args.words.now in
+    All-take (λ (x : ℕ). x < 2 ^ c.args.n) (c.min-end.result - start) (drop start words) (All-drop (λ (x : ℕ). x < 2 ^ c.args.n) start words c.requires.words)
+
+pub returns : goal.returns
+returns g c =
+    subst (Puts _ _) (ap (λ (words : List ℕ). word_lines c.args.n words) (take_all c.loop-start.start c.args.words.now c.loop-start-test.false))
+    c.loop-start.invariant.0

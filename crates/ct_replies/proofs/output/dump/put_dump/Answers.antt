@@ -1,4 +1,5 @@
-use Rattle.std.proofs.Common.{rules, length, subst}
+use Rattle.std.proofs.Common.{length, subst}
+use Rattle.std.proofs.lemmas.Result.{err_from_is_err_and}
 use Rattle.std.specs.List.{flat_map}
 use Rattle.ct_io.specs.Buffered.{Stops}
 use Rattle.ct_io.proofs.BufferedLemmas.{stops_sooner, is_put_as, is_put_then}
@@ -10,7 +11,8 @@ pub returns-in_err-put_comment : goal.returns-in_err-put_comment
 returns-in_err-put_comment g c =
     let pieces = c.args.pieces.now in
     let stops = subst (Stops _ _) (dump_is pieces) (stops_sooner _ _ (comment_of (length pieces)) (flat_map piece_dump pieces) c.in_err-put_comment.ensures) in
-    search rules
+    let p = err_from_is_err_and c.from_residual.result c.from_residual.ensures.1 in
+    rw p.1 stops
 
 pub returns : goal.returns
 returns g c =

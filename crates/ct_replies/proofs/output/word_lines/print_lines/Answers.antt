@@ -1,9 +1,9 @@
-use Rattle.std.proofs.Common.{arith, ◌≡◌, ◌≤◌, ◌+◌, ◌∙◌, ap, ap₂, List, ℕ, ◌++◌, ◌∷◌, [], length, length-append}
+use Rattle.std.proofs.Common.{arith, ◌≡◌, ◌≤◌, ◌+◌, ◌*◌, ◌∙◌, sym, ap, ap₂, List, ℕ, ◌++◌, ◌∷◌, [], length, length-append, take, take_all}
 use Rattle.std.proofs.lemmas.Slice.{take-put_mid}
 use Rattle.std.proofs.Math.Nat.{mul-le-mul_right}
 use Rattle.ct_words.specs.Text.{word_text}
 use Rattle.ct_words.proofs.TextLemmas.{length-word_text}
-use Rattle.ct_replies.specs.Text.{ended}
+use Rattle.ct_replies.specs.Text.{ended, word_lines}
 use Rattle.ct_io.proofs.BufferedLemmas.{part_more}
 use Rattle.ct_replies.proofs.output.word_lines.print_lines.Goals as goal
 
@@ -24,3 +24,14 @@ loop-word-preserved c =
           ∙ ap₂ (λ (xs ys : List ℕ). xs ++ ys) c.loop-word.invariant.1 c.print_line.ensures
           ∙ part_more line_of c.args.words.now i _ c.loop-word-test.true,
     )
+
+pub returns-clause-lines : goal.returns-clause-lines
+returns-clause-lines c =
+    let i = c.loop-word.word-index in
+    let n = c.args.n in
+    let words = c.args.words.now in
+    let none_left = c.loop-word-test.false in
+    let within = c.loop-word.auto.word-index-end in
+    let all : length words ≡ i = omega (arith, none_left, within) in
+    ap (λ (k : ℕ). take (k * (n + 1)) c.loop-word.into) all ∙ ap (λ (k : ℕ). take k c.loop-word.into) (sym c.loop-word.invariant.0)
+    ∙ c.loop-word.invariant.1 ∙ ap (λ (rest : List ℕ). word_lines n rest) (take_all i words none_left)

@@ -19,3 +19,6 @@ returns-clause-line g c =
     subst (λ (s : State). PutsLines s t (c.args.line.now ∷ []) c.args.replies.now.items after) c.self.view_is
     (puts_line _ t c.args.line.now c.args.replies.now.items after c.in_ok-command.command refused
     c.in_ok-command.ensures.command c.in_ok-command.ensures.pending e.reply e.pieces mark)
+
+pub returns-clause-unput : goal.returns-clause-unput
+returns-clause-unput g c = c.in_ok-owed.ensures.unput
