@@ -4,7 +4,7 @@ ghost use Rattle.std.specs.Prelude.{◌≡◌, ◌++◌, OnOk};
 ghost use Rattle.ct_build_files.specs.BuildFaultText.{build_fault_text};
 
 use ct_build::BuildFault;
-use ct_kind::{put_numbered, put_numbered_pair};
+use ct_text::{put_numbered, put_numbered_pair};
 use std::alloc::{AllocError, Global};
 
 /// Puts at the end of the text why a build makes no code. `Err` is want of memory.

@@ -4,7 +4,7 @@ ghost use Rattle.std.specs.Prelude.{◌≡◌, ◌++◌, OnOk};
 ghost use Rattle.ct_dual_files.specs.DualFaultText.{spaced_integer, dual_fault_text};
 
 use ct_duals::DualFault;
-use ct_kind::put_numbered;
+use ct_text::put_numbered;
 use std::alloc::{AllocError, Global};
 
 /// Puts a space and a whole number at the end of the text.

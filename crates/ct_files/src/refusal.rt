@@ -6,8 +6,9 @@ ghost use Rattle.ct_files.specs.Refusal.{file_fault_text, submit_fault_text};
 use ct_build_files::put_build_fault;
 use ct_dual_files::put_dual_fault;
 use ct_fields::DocumentFault;
-use ct_kind::{SubmitFault, put_named, put_numbered};
+use ct_kind::{SubmitFault, put_named};
 use ct_partition_files::put_partition_fault;
+use ct_text::put_numbered;
 use ct_word_files::put_code_fault;
 use std::alloc::{AllocError, Global};
 

@@ -12,4 +12,4 @@ pub use evidence::Evidence;
 pub use fault::SubmitFault;
 pub use kind::{Kind, support_from};
 pub use parts::{Found, Partitions};
-pub use text::{put_named, put_numbered, put_numbered_pair};
+pub use text::put_named;

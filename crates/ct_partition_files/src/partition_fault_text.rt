@@ -3,9 +3,8 @@
 ghost use Rattle.std.specs.Prelude.{◌≡◌, ◌++◌, OnOk};
 ghost use Rattle.ct_partition_files.specs.PartitionFaultText.{partition_fault_text};
 
-use ct_kind::{put_numbered, put_numbered_pair};
 use ct_partitions::PartitionFault;
-use ct_text::put_spaced;
+use ct_text::{put_numbered, put_numbered_pair, put_spaced};
 use std::alloc::{AllocError, Global};
 
 /// Puts at the end of the text why classes are no partition. `Err` is want of memory.

@@ -29,6 +29,33 @@ pub fn put_spaced(alloc: Global, text: &mut Vec<u8>, number: u64) -> Result<(), 
     put_number(alloc, text, number)
 }
 
+/// Puts a name and a number at the end of the text. `Err` is want of memory.
+pub fn put_numbered(
+    alloc: Global,
+    text: &mut Vec<u8>,
+    name: &[u8],
+    number: u64,
+) -> Result<(), AllocError>
+    ensures { OnOk result (text.new.items ≡ text.old.items ++ (name.now ++ spaced number)) }
+{
+    text.extend_from_slice(name)?;
+    put_spaced(alloc, text, number)
+}
+
+/// Puts a name and two numbers at the end of the text. `Err` is want of memory.
+pub fn put_numbered_pair(
+    alloc: Global,
+    text: &mut Vec<u8>,
+    name: &[u8],
+    first: u64,
+    second: u64,
+) -> Result<(), AllocError>
+    ensures { OnOk result (text.new.items ≡ text.old.items ++ (name.now ++ spaced first ++ spaced second)) }
+{
+    put_numbered(alloc, text, name, first)?;
+    put_spaced(alloc, text, second)
+}
+
 /// Puts a comma and the weight, where there is one, at the end of the text.
 fn put_weight(alloc: Global, text: &mut Vec<u8>, w: Option<u32>) -> Result<(), AllocError>
     ensures ok { OnOk result (text.new.items ≡ text.old.items ++ weight_text w) }

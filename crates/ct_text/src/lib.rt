@@ -13,7 +13,9 @@ mod side;
 mod table_numbers;
 mod text;
 
-pub use append::{put_entry, put_entry_words, put_number, put_spaced};
+pub use append::{
+    put_entry, put_entry_words, put_number, put_numbered, put_numbered_pair, put_spaced,
+};
 pub use digits::Digits;
 pub use document_lines::{LINE_FEED, line_count};
 pub use entry_numbers::{EntryNumbers, parse_entry_numbers};

@@ -3,8 +3,7 @@
 ghost use Rattle.std.specs.Prelude.{◌≡◌, ◌++◌, OnOk};
 ghost use Rattle.ct_word_files.specs.WordFaultText.{code_fault_text};
 
-use ct_kind::{put_numbered, put_numbered_pair};
-use ct_text::put_spaced;
+use ct_text::{put_numbered, put_numbered_pair, put_spaced};
 use ct_words::CodeFault;
 use std::alloc::{AllocError, Global};
 
