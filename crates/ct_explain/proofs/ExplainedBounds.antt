@@ -14,10 +14,10 @@ use Rattle.ct_derive.specs.Explanation.{IsExplanation}
 use Rattle.ct_derive.specs.Pieces.{AreNeeded}
 use Rattle.ct_derive.proofs.ExplanationLaws.{lines_of_explanation_are_true, ordered_lines}
 use Rattle.ct_derive.proofs.NeededExist.{shown_exists}
-use Rattle.ct_pieces.specs.Piece.{PieceValue}
-use Rattle.ct_pieces.specs.Standing.{AreStanding}
-use Rattle.ct_pieces.specs.Supports.{support_of, supports_of}
-use Rattle.ct_pieces.proofs.SupportLemmas.{supports_stand}
+use Rattle.ct_piece.specs.Piece.{PieceValue}
+use Rattle.ct_piece.specs.Standing.{AreStanding}
+use Rattle.ct_piece.specs.Supports.{support_of, supports_of}
+use Rattle.ct_piece.proofs.SupportLemmas.{supports_stand}
 use Rattle.ct_explain.specs.Explained.{ExplainsBest}
 use Rattle.ct_explain.specs.Parts.{part_places, parts_of_each}
 use Rattle.ct_explain.proofs.PartPlaces.{parts_earlier}

@@ -7,11 +7,10 @@ use Rattle.std.proofs.lemmas.List.Elements.{All-nil, All-cons, All-contains, Con
 use Rattle.std.proofs.lemmas.List.{take_more, length-take-le}
 use Rattle.std.proofs.lemmas.Option.{slice_get-map}
 use Rattle.ct_derive.specs.Pieces.{AreEarlier}
-use Rattle.ct_kind.specs.declared.evidence.Evidence.{Evidence}
 use Rattle.ct_files.specs.ByKind.{parts_of, names}
-use Rattle.ct_pieces.specs.Piece.{PieceValue}
-use Rattle.ct_pieces.specs.Standing.{AreStanding}
-use Rattle.ct_pieces.proofs.EarlierParts.{part_earlier}
+use Rattle.ct_piece.specs.Piece.{PieceValue}
+use Rattle.ct_piece.specs.Standing.{AreStanding}
+use Rattle.ct_piece.proofs.EarlierParts.{part_earlier}
 use Rattle.ct_explain.specs.Parts.{places_where, part_places, parts_of_each}
 
 -- the places with one more item at the end
@@ -53,13 +52,13 @@ place_passed test xs i x within is fails =
     (places-more test xs i x within is ∙ ap (λ (b : Bool). places_where test 0 (take i xs) ++ cond b (i ∷ []) []) fails
     ∙ append-nil (places_where test 0 (take i xs)))
 
--- evidence without parts names none of the pieces
-pub no_places : (e : Evidence) (k : ℕ) (ps : List PieceValue) → parts_of e ≡ [] → places_where (λ q. names e q.id) k ps ≡ []
-no_places e k [] none = refl
-no_places e k (q ∷ ps) none =
-    let passed : names e q.id ≡ false = ap (list_any (λ part. bytes_eq part q.id)) none in
-    let rest = places_where (λ (r : PieceValue). names e r.id) (k + 1) ps in
-    ap (λ (b : Bool). cond b (k ∷ rest) rest) passed ∙ no_places e (k + 1) ps none
+-- a piece without parts names none of the pieces
+pub no_places : (p : PieceValue) (k : ℕ) (ps : List PieceValue) → parts_of p.evidence ≡ [] → places_where (λ q. names p.evidence q.id) k ps ≡ []
+no_places p k [] none = refl
+no_places p k (q ∷ ps) none =
+    let passed : names p.evidence q.id ≡ false = ap (list_any (λ part. bytes_eq part q.id)) none in
+    let rest = places_where (λ (r : PieceValue). names p.evidence r.id) (k + 1) ps in
+    ap (λ (b : Bool). cond b (k ∷ rest) rest) passed ∙ no_places p (k + 1) ps none
 
 -- what holds of each place at which the test holds
 pub All-places : {X : Type 0} (P : ℕ → Type 0) (test : X → Bool) (k : ℕ) (xs : List X)

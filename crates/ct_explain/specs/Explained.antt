@@ -7,8 +7,8 @@ use Rattle.ct_derive.specs.Derivation.{DerivationValue}
 use Rattle.ct_derive.specs.Explanation.{IsExplanation}
 use Rattle.ct_derive.specs.Pieces.{AreNeeded}
 use Rattle.ct_derive.specs.Text.{derivation_text}
-use Rattle.ct_pieces.specs.Piece.{PieceValue}
-use Rattle.ct_pieces.specs.Supports.{supports_of}
+use Rattle.ct_piece.specs.Piece.{PieceValue}
+use Rattle.ct_piece.specs.Supports.{supports_of}
 use Rattle.ct_explain.specs.Parts.{parts_of_each}
 
 -- a derivation explains the best bound of a side of an entry over pieces: its lines are an explanation of it, and its pieces are those that the

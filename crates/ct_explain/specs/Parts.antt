@@ -1,7 +1,7 @@
 -- The parts of pieces, as places.
 use Rattle.std.specs.Prelude.{ℕ, ◌+◌, Bool, if◌then◌else◌, List, [], ◌∷◌, map}
 use Rattle.ct_files.specs.ByKind.{names}
-use Rattle.ct_pieces.specs.Piece.{PieceValue}
+use Rattle.ct_piece.specs.Piece.{PieceValue}
 
 -- the places of the items for which the test holds, where the first stands at this place
 abbrev pub places_where : {X : Type 0} → (X → Bool) → ℕ → List X → List ℕ

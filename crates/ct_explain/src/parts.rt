@@ -5,7 +5,7 @@ ghost use Rattle.ct_explain.specs.Parts.{part_places, parts_of_each};
 
 use ct_derive::{Parts, PieceParts};
 use ct_files::has_parts;
-use ct_pieces::Piece;
+use ct_piece::Piece;
 use smallvec::SmallVec;
 use std::alloc::{AllocError, Global};
 use std::marker::Model;
@@ -41,7 +41,7 @@ pub struct PartsOfPieces<'a> {
 
 impl<'a> Model for PartsOfPieces<'a> {
     ghost use Rattle.std.specs.Prelude.{List};
-    ghost use Rattle.ct_pieces.specs.Piece.{PieceValue};
+    ghost use Rattle.ct_piece.specs.Piece.{PieceValue};
 
     ghost Value = { List PieceValue };
 

@@ -6,7 +6,7 @@ ghost use Rattle.ct_explain.specs.Explained.{explanation_text};
 
 use ct_derive::{Derivation, ShownPiece};
 use ct_names::Id;
-use ct_pieces::Piece;
+use ct_piece::Piece;
 use std::alloc::{AllocError, Global};
 use std::marker::Model;
 
@@ -17,7 +17,7 @@ struct Shown<'a> {
 }
 
 impl<'a> Model for Shown<'a> {
-    ghost use Rattle.ct_pieces.specs.Piece.{PieceValue};
+    ghost use Rattle.ct_piece.specs.Piece.{PieceValue};
 
     ghost Value = { PieceValue };
 

@@ -12,19 +12,19 @@ use Rattle.ct_files.specs.Document.{document_read_of}
 use Rattle.ct_files.proofs.Documents.{document_read_of-right}
 use Rattle.ct_kind.specs.Named.{is_known, first_missing}
 use Rattle.ct_files.specs.ByKind.{stated_entry, parts_of, own_reason, words_over}
-use Rattle.ct_pieces.specs.Piece.{PieceValue, has_id}
-use Rattle.ct_pieces.specs.Codes.{codes_of}
-use Rattle.ct_pieces.specs.Submission.{piece_of, made_unless, piece_from, submitted, IsAccepted}
-use Rattle.ct_pieces.specs.Standing.{AreStanding}
+use Rattle.ct_piece.specs.Piece.{PieceValue, has_id}
+use Rattle.ct_piece.specs.Codes.{codes_of}
+use Rattle.ct_piece.specs.Submission.{piece_of, made_unless, piece_from, submitted, IsAccepted}
+use Rattle.ct_piece.specs.Standing.{AreStanding}
 use Rattle.ct_kind.specs.declared.fault.SubmitFault.{SubmitFault}
 use Rattle.ct_kind.specs.declared.fault.SubmitFault.TheVariants as fault
-use Rattle.ct_pieces.proofs.Accepting.{not_taken}
-use Rattle.ct_pieces.proofs.CodeLemmas.{known_where_taken}
+use Rattle.ct_piece.proofs.Accepting.{not_taken}
+use Rattle.ct_piece.proofs.CodeLemmas.{known_where_taken}
 use Rattle.ct_kind.specs.Sound.{HasSoundCode}
 use Rattle.ct_laws.proofs.OwnReasons.{no_own_reason}
 use Rattle.ct_files.proofs.StatedByKind.{IsRight, right-parts, states_code}
-use Rattle.ct_pieces.proofs.MakingLemmas.{none_missing, none_missing-from, making, codes_after-sound}
-use Rattle.ct_pieces.proofs.StandingLemmas.{WasMade, submitted-ok, submitted-from, has_id-none, piece_from-within}
+use Rattle.ct_piece.proofs.MakingLemmas.{none_missing, none_missing-from, making, codes_after-sound}
+use Rattle.ct_piece.proofs.StandingLemmas.{WasMade, submitted-ok, submitted-from, has_id-none, piece_from-within}
 
 -- a list begins with its first item, and holds those of the rest
 contains_first : (x : List ℕ) (xs : List (List ℕ)) → Contains (x ∷ xs) x

@@ -12,13 +12,13 @@ use Rattle.ct_words.specs.Numbers.{numbers_of}
 use Rattle.ct_files.specs.Document.{without_cites, document_without_limit, document_read_of}
 use Rattle.ct_files.proofs.Documents.{document_read_of-without_limit}
 use Rattle.ct_kind.specs.Named.{NamedCode}
-use Rattle.ct_pieces.specs.Piece.{PieceValue, stored_by, stored_words}
-use Rattle.ct_pieces.specs.Codes.{codes_of}
-use Rattle.ct_pieces.specs.Submission.{made_of, piece_of, made_unless, piece_from, submitted}
+use Rattle.ct_piece.specs.Piece.{PieceValue, stored_by, stored_words}
+use Rattle.ct_piece.specs.Codes.{codes_of}
+use Rattle.ct_piece.specs.Submission.{made_of, piece_of, made_unless, piece_from, submitted}
 use Rattle.ct_kind.specs.declared.fault.SubmitFault.TheVariants as fault
-use Rattle.ct_pieces.specs.declared.limits.TheConstants.{MAX_PIECES, MAX_STORED}
-use Rattle.ct_pieces.proofs.Accepting.{not_taken}
-use Rattle.ct_pieces.proofs.StandingLemmas.{submitted-from}
+use Rattle.ct_piece.specs.declared.limits.TheConstants.{MAX_PIECES, MAX_STORED}
+use Rattle.ct_piece.proofs.Accepting.{not_taken}
+use Rattle.ct_piece.proofs.StandingLemmas.{submitted-from}
 use Rattle.ct_find.specs.Proposal.{dual_evidence, find_id, found_dual}
 use Rattle.ct_laws.specs.Proposed.{proposed_piece}
 use Rattle.ct_find.proofs.FoundDuals.{found}

@@ -16,12 +16,12 @@ use Rattle.ct_text.specs.DocumentLines.{line_count}
 use Rattle.ct_text.specs.declared.gathering.Extent.TheVariants.{Lines}
 use Rattle.ct_text.proofs.Decimals.{printed_is_read}
 use Rattle.ct_fields.specs.declared.document.TheConstants.{MAX_DOCUMENT}
-use Rattle.ct_pieces.specs.Piece.{PieceValue}
-use Rattle.ct_pieces.specs.Submission.{submitted}
-use Rattle.ct_pieces.specs.Standing.{AreStanding}
+use Rattle.ct_piece.specs.Piece.{PieceValue}
+use Rattle.ct_piece.specs.Submission.{submitted}
+use Rattle.ct_piece.specs.Standing.{AreStanding}
 use Rattle.ct_commands.proofs.DocumentLines.{front, joined, grouped, lines_of-document, regrouped}
-use Rattle.ct_pieces.proofs.Accepting.{made_again}
-use Rattle.ct_pieces.proofs.StandingLemmas.{submitted-from}
+use Rattle.ct_piece.proofs.Accepting.{made_again}
+use Rattle.ct_piece.proofs.StandingLemmas.{submitted-from}
 use Rattle.ct_derive.specs.Text.{evidence_text}
 use Rattle.ct_verify.specs.Heading.{lines_extent, heading_with, heading_of}
 use Rattle.ct_verify.specs.Read.{ReadingValue}

@@ -12,20 +12,20 @@ use Rattle.ct_files.specs.Document.{DocumentValue, document_read_of}
 use Rattle.ct_files.proofs.Documents.{document_without_limit-right}
 use Rattle.ct_kind.specs.Named.{NamedCode}
 use Rattle.ct_files.specs.ByKind.{stated_entry, size_over}
-use Rattle.ct_pieces.specs.Piece.{PieceValue, has_id, stored_by, stored_words}
-use Rattle.ct_pieces.specs.Codes.{named_code, codes_after, codes_of}
+use Rattle.ct_piece.specs.Piece.{PieceValue, has_id, stored_by, stored_words}
+use Rattle.ct_piece.specs.Codes.{named_code, codes_after, codes_of}
 use Rattle.ct_files.specs.ByKind.{evidence_reason}
-use Rattle.ct_pieces.specs.Submission.{piece_of, made_unless, made_of, piece_from, stored_beside, unless_full, submitted}
-use Rattle.ct_pieces.specs.Supports.{support_of, supports_of}
+use Rattle.ct_piece.specs.Submission.{piece_of, made_unless, made_of, piece_from, stored_beside, unless_full, submitted}
+use Rattle.ct_piece.specs.Supports.{support_of, supports_of}
 use Rattle.ct_rule_parts.specs.declared.support.Support.{Support}
-use Rattle.ct_pieces.specs.Withdrawal.{names_any, ids_along, taken_along}
-use Rattle.ct_pieces.specs.Standing.{AreMade, AreStanding}
+use Rattle.ct_piece.specs.Withdrawal.{names_any, ids_along, taken_along}
+use Rattle.ct_piece.specs.Standing.{AreMade, AreStanding}
 use Rattle.ct_laws.specs.Citing.{recited, made_recited, uncited}
-use Rattle.ct_pieces.specs.declared.limits.TheConstants.{MAX_PIECES, MAX_STORED}
+use Rattle.ct_piece.specs.declared.limits.TheConstants.{MAX_PIECES, MAX_STORED}
 use Rattle.ct_kind.specs.declared.fault.SubmitFault.{SubmitFault}
 use Rattle.ct_kind.specs.declared.fault.SubmitFault.TheVariants as fault
-use Rattle.ct_pieces.proofs.MakingLemmas.{making, making-of}
-use Rattle.ct_pieces.proofs.StandingLemmas.{submitted-ok}
+use Rattle.ct_piece.proofs.MakingLemmas.{making, making-of}
+use Rattle.ct_piece.proofs.StandingLemmas.{submitted-ok}
 
 -- the texts that a piece cites are those that its document does
 pub cites-kept : (pieces : List PieceValue) (id document : List ℕ) (p : PieceValue) → submitted pieces id document ≡ Ok p

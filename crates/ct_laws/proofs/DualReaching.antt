@@ -15,11 +15,11 @@ use Rattle.ct_rule_parts.specs.Support.{Stands}
 use Rattle.ct_rules.specs.Derivation.{IsDerived, IsBest}
 use Rattle.ct_laws.proofs.GivenDuals.{dual-reached}
 use Rattle.ct_kind.specs.declared.evidence.Evidence.TheVariants as evidence
-use Rattle.ct_pieces.specs.Piece.{PieceValue}
-use Rattle.ct_pieces.specs.Standing.{AreStanding}
-use Rattle.ct_pieces.specs.Supports.{support_of, supports_of}
+use Rattle.ct_piece.specs.Piece.{PieceValue}
+use Rattle.ct_piece.specs.Standing.{AreStanding}
+use Rattle.ct_piece.specs.Supports.{support_of, supports_of}
 use Rattle.ct_laws.proofs.DualSupports.{gives_bound, gives_johnson_bound}
-use Rattle.ct_pieces.proofs.SupportLemmas.{supports_stand}
+use Rattle.ct_piece.proofs.SupportLemmas.{supports_stand}
 
 -- what a piece that stands gives is the support at its place, and stands
 pub given_there : (ps : List PieceValue) (k : ℕ) (p : PieceValue) (s : Support) → AreStanding ps → slice_get ps k ≡ Some p → support_of p ≡ s

@@ -13,10 +13,10 @@ use Rattle.ct_kind.specs.declared.evidence.Evidence.TheVariants as evidence
 use Rattle.ct_files.specs.ByKind.{kind_of, IsChecked}
 use Rattle.ct_dual_files.specs.DualKind.{with_at_zero, dual_support, IsDualChecked}
 use Rattle.ct_laws.proofs.DualReasons.{odd_gives, local_gives}
-use Rattle.ct_pieces.specs.Piece.{PieceValue}
-use Rattle.ct_pieces.specs.Codes.{codes_of}
-use Rattle.ct_pieces.specs.Standing.{AreStanding}
-use Rattle.ct_pieces.specs.Supports.{support_of}
+use Rattle.ct_piece.specs.Piece.{PieceValue}
+use Rattle.ct_piece.specs.Codes.{codes_of}
+use Rattle.ct_piece.specs.Standing.{AreStanding}
+use Rattle.ct_piece.specs.Supports.{support_of}
 use Rattle.ct_pieces.proofs.PartLemmas.{IsPlaced, placed, Some-piece}
 
 -- what is known of a piece that stands

@@ -24,18 +24,18 @@ use Rattle.ct_commands.proofs.SpacedWords.{known_word, decimal_word, IsLine-word
 use Rattle.ct_commands.proofs.Submissions.{alone}
 use Rattle.ct_commands.proofs.WrittenSubmissions.{written_is_read}
 use Rattle.ct_kind.specs.Named.{NamedCode}
-use Rattle.ct_pieces.specs.Piece.{PieceValue, has_id, first_user, stored_by}
-use Rattle.ct_pieces.specs.Codes.{codes_of}
-use Rattle.ct_pieces.specs.Submission.{piece_from, submitted, with_piece}
-use Rattle.ct_pieces.specs.Withdrawal.{without, withdrawn, unless_used, taken_along, is_among, without_all, withdrawn_all, left_by}
-use Rattle.ct_pieces.specs.Standing.{AreStanding, IsMade}
-use Rattle.ct_pieces.specs.Dump.{piece_dump, dump_text}
+use Rattle.ct_piece.specs.Piece.{PieceValue, has_id, first_user, stored_by}
+use Rattle.ct_piece.specs.Codes.{codes_of}
+use Rattle.ct_piece.specs.Submission.{piece_from, submitted, with_piece}
+use Rattle.ct_piece.specs.Withdrawal.{without, withdrawn, unless_used, taken_along, is_among, without_all, withdrawn_all, left_by}
+use Rattle.ct_piece.specs.Standing.{AreStanding, IsMade}
+use Rattle.ct_piece.specs.Dump.{piece_dump, dump_text}
 use Rattle.ct_kind.specs.declared.fault.SubmitFault.{SubmitFault}
-use Rattle.ct_pieces.specs.declared.fault.WithdrawFault.{WithdrawFault}
-use Rattle.ct_pieces.specs.declared.fault.WithdrawFault.TheVariants as withdraw
-use Rattle.ct_pieces.proofs.CodeLemmas.{AreMade-back}
-use Rattle.ct_pieces.proofs.StandingLemmas.{WasMade, submitted-ok, submitted-from, piece_from-names, piece_from-within}
-use Rattle.ct_pieces.proofs.Accepting.{not_taken}
+use Rattle.ct_piece.specs.declared.fault.WithdrawFault.{WithdrawFault}
+use Rattle.ct_piece.specs.declared.fault.WithdrawFault.TheVariants as withdraw
+use Rattle.ct_piece.proofs.CodeLemmas.{AreMade-back}
+use Rattle.ct_piece.proofs.StandingLemmas.{WasMade, submitted-ok, submitted-from, piece_from-names, piece_from-within}
+use Rattle.ct_piece.proofs.Accepting.{not_taken}
 use Rattle.ct_session.specs.Reply.{pieces_after, submission_reply}
 use Rattle.ct_replies.specs.Refusals.{is_refusal}
 use Rattle.ct_session.specs.Run.{AreReplies, AnswersCommands, IsRun, pieces_of}

@@ -14,8 +14,8 @@ use Rattle.ct_rule_parts.specs.Slot.{claim_at}
 use Rattle.ct_rule_parts.specs.Support.{Stands, AllStand}
 use Rattle.ct_rules.proofs.BestValues.{best_is_true, equal_is_best}
 use Rattle.ct_laws.proofs.KnownClaims.{four_from_below, four_from_above}
-use Rattle.ct_pieces.specs.Piece.{PieceValue}
-use Rattle.ct_pieces.specs.Supports.{supports_of}
+use Rattle.ct_piece.specs.Piece.{PieceValue}
+use Rattle.ct_piece.specs.Supports.{supports_of}
 use Rattle.ct_session.specs.Reply.{AreBoundsOf}
 
 -- where both are derived, they are shown

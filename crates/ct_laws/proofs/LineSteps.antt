@@ -13,8 +13,8 @@ use Rattle.ct_rules.specs.declared.arguments.Arguments.TheVariants.{Nothing, Num
 use Rattle.ct_rules.specs.Rule.{place_of, arguments_of, bare}
 use Rattle.ct_rules.proofs.RuleNames.{place_among, place_is, bare-placed}
 use Rattle.ct_rules.specs.Derivation.{LineValue, Follows}
-use Rattle.ct_pieces.specs.Piece.{PieceValue, place_of as piece_place}
-use Rattle.ct_pieces.specs.Supports.{supports_of}
+use Rattle.ct_piece.specs.Piece.{PieceValue, place_of as piece_place}
+use Rattle.ct_piece.specs.Supports.{supports_of}
 use Rattle.ct_derive.specs.Check.{line_by, numbers_at}
 use Rattle.ct_derive.specs.Text.{lines_text}
 use Rattle.ct_derive.proofs.CheckedLines.{no_fault, places_again}

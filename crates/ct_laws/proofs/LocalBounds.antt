@@ -36,9 +36,9 @@ use Rattle.ct_kind.specs.Named.{NamedCode}
 use Rattle.ct_kind.specs.declared.fault.SubmitFault.TheVariants as fault
 use Rattle.ct_kind.proofs.Stating.{option_map-none}
 use Rattle.ct_dual_files.specs.DualKind.{with_at_zero, local_support}
-use Rattle.ct_pieces.specs.Piece.{PieceValue}
-use Rattle.ct_pieces.specs.Standing.{AreStanding}
-use Rattle.ct_pieces.specs.Supports.{supports_of}
+use Rattle.ct_piece.specs.Piece.{PieceValue}
+use Rattle.ct_piece.specs.Standing.{AreStanding}
+use Rattle.ct_piece.specs.Supports.{supports_of}
 use Rattle.ct_laws.proofs.DualSupports.{placed_piece, gives_local}
 use Rattle.ct_laws.specs.EvidenceSupport.{IsSupportOf}
 use Rattle.ct_laws.proofs.DualReaching.{given_there}

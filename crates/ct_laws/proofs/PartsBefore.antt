@@ -8,12 +8,12 @@ use Rattle.std.proofs.lemmas.Option.{slice_get_within, get_or_from_slice_get}
 use Rattle.std.proofs.lemmas.Slice.Eq.{bytes_eq-Decides}
 use Rattle.ct_kind.specs.Named.{is_known}
 use Rattle.ct_files.specs.ByKind.{parts_of, names}
-use Rattle.ct_pieces.specs.Piece.{PieceValue, has_id}
-use Rattle.ct_pieces.specs.Codes.{codes_of}
-use Rattle.ct_pieces.specs.Standing.{AreStanding}
-use Rattle.ct_pieces.proofs.CodeLemmas.{known_where_taken}
+use Rattle.ct_piece.specs.Piece.{PieceValue, has_id}
+use Rattle.ct_piece.specs.Codes.{codes_of}
+use Rattle.ct_piece.specs.Standing.{AreStanding}
+use Rattle.ct_piece.proofs.CodeLemmas.{known_where_taken}
 use Rattle.ct_files.proofs.StatedByKind.{IsRight, right-parts}
-use Rattle.ct_pieces.proofs.MakingLemmas.{none_missing, right_at}
+use Rattle.ct_piece.proofs.MakingLemmas.{none_missing, right_at}
 
 -- what holds of each id holds of one that is among them
 named_part : (P : List ℕ → Type 0) (ids : List (List ℕ)) (id : List ℕ) → All P ids → list_any (λ (part : List ℕ). bytes_eq part id) ids ≡ true → P id

@@ -13,8 +13,8 @@ use Rattle.ct_names.specs.Id.{is_id}
 use Rattle.ct_fields.specs.declared.document.TheConstants.{MAX_DOCUMENT}
 use Rattle.ct_rule_parts.specs.Slot.{claim_at}
 use Rattle.ct_rules.specs.Derivation.{LineValue}
-use Rattle.ct_pieces.specs.Piece.{PieceValue}
-use Rattle.ct_pieces.specs.Standing.{AreStanding}
+use Rattle.ct_piece.specs.Piece.{PieceValue}
+use Rattle.ct_piece.specs.Standing.{AreStanding}
 use Rattle.ct_derive.specs.Derivation.{DerivationValue}
 use Rattle.ct_derive.specs.Explanation.{last_claim}
 use Rattle.ct_derive.specs.Text.{block_text, evidence_text, lines_text}

@@ -13,11 +13,11 @@ use Rattle.std.proofs.lemmas.Slice.Eq.{bytes_eq-Decides}
 use Rattle.ct_rule_parts.specs.declared.support.Support.{Support}
 use Rattle.ct_rules.specs.Derivation.{LineValue, IsDerivation}
 use Rattle.ct_files.specs.ByKind.{parts_of, names}
-use Rattle.ct_pieces.specs.Piece.{PieceValue, place_of as piece_place}
-use Rattle.ct_pieces.specs.Standing.{AreStanding}
-use Rattle.ct_pieces.specs.Supports.{support_of, supports_of}
-use Rattle.ct_pieces.proofs.StandingLemmas.{AreStanding-passing}
-use Rattle.ct_pieces.proofs.LeavingLemmas.{AllPassed, ArePassed}
+use Rattle.ct_piece.specs.Piece.{PieceValue, place_of as piece_place}
+use Rattle.ct_piece.specs.Standing.{AreStanding}
+use Rattle.ct_piece.specs.Supports.{support_of, supports_of}
+use Rattle.ct_piece.proofs.StandingLemmas.{AreStanding-passing}
+use Rattle.ct_piece.proofs.LeavingLemmas.{AllPassed, ArePassed}
 use Rattle.ct_derive.specs.Pieces.{cited_places, parts_at, IsNeeded, AreNeeded}
 use Rattle.ct_derive.specs.Pieces.IsNeeded.{by_line, by_piece}
 use Rattle.ct_derive.specs.Text.{block_text, evidence_text}

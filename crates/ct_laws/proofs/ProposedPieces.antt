@@ -45,11 +45,11 @@ use Rattle.ct_commands.specs.declared.command.Command.{Command}
 use Rattle.ct_commands.proofs.SpacedWords.{AreWords, spaced_words, known_word, decimal_word, IsLine-words}
 use Rattle.ct_commands.proofs.Submissions.{alone}
 use Rattle.ct_kind.specs.Named.{NamedCode}
-use Rattle.ct_pieces.specs.Codes.{named_code}
-use Rattle.ct_pieces.specs.Dump.{piece_dump}
-use Rattle.ct_pieces.specs.Piece.{PieceValue, stored_by, stored_words}
-use Rattle.ct_pieces.specs.Standing.{AreMade, AreStanding}
-use Rattle.ct_pieces.specs.declared.limits.TheConstants.{MAX_PIECES}
+use Rattle.ct_piece.specs.Codes.{named_code}
+use Rattle.ct_piece.specs.Dump.{piece_dump}
+use Rattle.ct_piece.specs.Piece.{PieceValue, stored_by, stored_words}
+use Rattle.ct_piece.specs.Standing.{AreMade, AreStanding}
+use Rattle.ct_piece.specs.declared.limits.TheConstants.{MAX_PIECES}
 use Rattle.ct_session.specs.Reply.{pieces_after}
 use Rattle.ct_session.specs.Run.{AnswersCommands, IsRun, pieces_of}
 use Rattle.ct_replies.specs.Text.{reply_text}

@@ -29,9 +29,9 @@ use Rattle.ct_rules.proofs.RuleNames.{place_among, place_is}
 use Rattle.ct_rules.specs.Derivation.{LineValue, Follows, IsDerivation}
 use Rattle.ct_rules.proofs.Applied.{defined, applies_from_premises}
 use Rattle.ct_rules.proofs.LoweredRules.{support_there}
-use Rattle.ct_pieces.specs.Piece.{PieceValue, place_of as piece_place}
-use Rattle.ct_pieces.specs.Standing.{AreStanding}
-use Rattle.ct_pieces.specs.Supports.{support_of, supports_of}
+use Rattle.ct_piece.specs.Piece.{PieceValue, place_of as piece_place}
+use Rattle.ct_piece.specs.Standing.{AreStanding}
+use Rattle.ct_piece.specs.Supports.{support_of, supports_of}
 use Rattle.ct_derive.specs.Check.{numbers_at}
 use Rattle.ct_derive.specs.Pieces.{cited_places, AreNeeded}
 use Rattle.ct_derive.specs.Pieces.IsNeeded.{by_line}

@@ -8,25 +8,25 @@ use Rattle.ct_kind.specs.declared.evidence.Evidence.{Evidence}
 use Rattle.ct_fields.specs.declared.fault.DocumentFault.{DocumentFault}
 use Rattle.ct_files.specs.Document.{DocumentValue, document_read_of}
 use Rattle.ct_kind.specs.Named.{is_known, first_missing}
-use Rattle.ct_pieces.specs.Withdrawal.{without, withdrawn, unless_used}
-use Rattle.ct_pieces.specs.declared.fault.WithdrawFault.{WithdrawFault}
-use Rattle.ct_pieces.specs.declared.fault.WithdrawFault.TheVariants as withdraw
+use Rattle.ct_piece.specs.Withdrawal.{without, withdrawn, unless_used}
+use Rattle.ct_piece.specs.declared.fault.WithdrawFault.{WithdrawFault}
+use Rattle.ct_piece.specs.declared.fault.WithdrawFault.TheVariants as withdraw
 use Rattle.ct_files.specs.ByKind.{names, parts_of, own_reason}
-use Rattle.ct_pieces.specs.Piece.{PieceValue, has_id, stored_by, stored_words, first_user}
-use Rattle.ct_pieces.specs.Codes.{codes_of}
-use Rattle.ct_pieces.specs.Submission.{piece_of, made_unless, piece_from, stored_beside, unless_full, submitted}
+use Rattle.ct_piece.specs.Piece.{PieceValue, has_id, stored_by, stored_words, first_user}
+use Rattle.ct_piece.specs.Codes.{codes_of}
+use Rattle.ct_piece.specs.Submission.{piece_of, made_unless, piece_from, stored_beside, unless_full, submitted}
 use Rattle.ct_laws.specs.Refusals.{HasRoom, IsRead, IsFirstMissing, IsOwnReason, IsRefused, IsFirstUser, IsNotWithdrawn}
-use Rattle.ct_pieces.specs.declared.limits.TheConstants.{MAX_PIECES, MAX_STORED}
+use Rattle.ct_piece.specs.declared.limits.TheConstants.{MAX_PIECES, MAX_STORED}
 use Rattle.ct_kind.specs.declared.fault.SubmitFault.{SubmitFault}
 use Rattle.ct_kind.specs.declared.fault.SubmitFault.TheVariants.{Taken, FullPieces, File, NoSuch, WrongPart, Code, Partition, Build, Dual, FullWords, Memory}
 use Rattle.ct_files.specs.Evidence.{read_of}
 use Rattle.ct_files.proofs.Documents.{document_read_of-right, document_read_of-err}
-use Rattle.ct_pieces.proofs.CodeLemmas.{known_where_taken}
+use Rattle.ct_piece.proofs.CodeLemmas.{known_where_taken}
 use Rattle.ct_files.proofs.OwnReasons.{IsOwn, reason-own}
 use Rattle.ct_laws.proofs.OwnReasons.{own_checked}
 use Rattle.ct_laws.proofs.OwnReasons.{own-told, own-tells, no_own_reason}
-use Rattle.ct_pieces.proofs.StandingLemmas.{has_id-none}
-use Rattle.ct_pieces.proofs.Accepting.{not_taken}
+use Rattle.ct_piece.proofs.StandingLemmas.{has_id-none}
+use Rattle.ct_piece.proofs.Accepting.{not_taken}
 use Rattle.ct_laws.proofs.Accepted.{taken, parts_stand, parts_known, stand-known, known-stand}
 
 -- where something is found: it passes the test, and nothing before it does

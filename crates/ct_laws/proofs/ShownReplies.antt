@@ -11,9 +11,9 @@ use Rattle.ct_derive.specs.Derivation.{DerivationValue}
 use Rattle.ct_derive.specs.Explanation.{IsExplanation}
 use Rattle.ct_explain.specs.Explained.{explanation_text}
 use Rattle.ct_explain.proofs.ExplainedBounds.{lines_are_true}
-use Rattle.ct_pieces.specs.Piece.{PieceValue}
-use Rattle.ct_pieces.specs.Standing.{AreStanding}
-use Rattle.ct_pieces.specs.Supports.{supports_of}
+use Rattle.ct_piece.specs.Piece.{PieceValue}
+use Rattle.ct_piece.specs.Standing.{AreStanding}
+use Rattle.ct_piece.specs.Supports.{supports_of}
 use Rattle.ct_rule_codes.specs.CodeEntry.{entry_of_code}
 use Rattle.ct_session.specs.Reply.{AreBoundsOf, IsShowReply, IsExplainReply, IsListReply}
 use Rattle.ct_replies.specs.Text.{code_text}

@@ -7,7 +7,7 @@ use Rattle.ct_words.specs.declared.claim.Side.{Side}
 use Rattle.ct_text.specs.EntryNumbers.{named_entry}
 use Rattle.ct_commands.specs.declared.command.Command.{Command}
 use Rattle.ct_commands.specs.declared.command.Command.TheVariants as command
-use Rattle.ct_pieces.specs.Piece.{PieceValue}
+use Rattle.ct_piece.specs.Piece.{PieceValue}
 use Rattle.ct_words.specs.TableEntries.{column}
 use Rattle.ct_session.specs.Reply.{IsReply, IsShown, IsShowReply, IsTableReply, IsExplainReply, IsListReply, leaves_choice, pieces_after}
 use Rattle.ct_replies.specs.Refusals.{is_refusal}

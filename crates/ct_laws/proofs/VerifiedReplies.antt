@@ -13,9 +13,9 @@ use Rattle.ct_commands.specs.declared.command.Command.{Command}
 use Rattle.ct_commands.specs.declared.command.Command.TheVariants as command
 use Rattle.ct_commands.proofs.Naming.{AreNamed, commands_of-named}
 use Rattle.ct_fields.specs.declared.document.TheConstants.{MAX_DOCUMENT}
-use Rattle.ct_pieces.specs.Piece.{PieceValue}
-use Rattle.ct_pieces.specs.Standing.{AreStanding}
-use Rattle.ct_pieces.proofs.StandingLemmas.{AreStanding-none}
+use Rattle.ct_piece.specs.Piece.{PieceValue}
+use Rattle.ct_piece.specs.Standing.{AreStanding}
+use Rattle.ct_piece.proofs.StandingLemmas.{AreStanding-none}
 use Rattle.ct_verify.specs.Verdict.{verdict_of}
 use Rattle.ct_verify.specs.declared.verdict.Verdict.TheVariants.{Yes}
 use Rattle.ct_laws.proofs.PrintedDerivations.{printed_is_verified}

@@ -1,6 +1,6 @@
 -- The text of a piece that is accepted.
 use Rattle.std.specs.Prelude.{ℕ, List}
-use Rattle.ct_pieces.specs.Piece.{PieceValue}
+use Rattle.ct_piece.specs.Piece.{PieceValue}
 use Rattle.ct_replies.specs.Text.{reply_text}
 use Rattle.ct_replies.specs.declared.reply.Reply.TheVariants.{Accepted}
 

@@ -1,7 +1,7 @@
 -- Pieces by what they cite.
 use Rattle.std.specs.Prelude.{ℕ, List, [], map, Result, Ok, Err}
 use Rattle.ct_kind.specs.declared.fault.SubmitFault.{SubmitFault}
-use Rattle.ct_pieces.specs.Piece.{PieceValue}
+use Rattle.ct_piece.specs.Piece.{PieceValue}
 
 -- a piece with another document, which cites other texts
 abbrev pub recited : List ℕ → List (List ℕ) → PieceValue → PieceValue

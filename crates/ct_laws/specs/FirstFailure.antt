@@ -3,7 +3,7 @@ use Rattle.std.specs.Prelude.{◌≡◌, ◌⊎◌, ℕ, ◌+◌, ⊤, List, [],
 use Rattle.ct_io.specs.Lines.{lines_of}
 use Rattle.ct_text.specs.Gathering.{gathered}
 use Rattle.ct_text.specs.declared.gathering.Gathered.TheVariants.{Whole}
-use Rattle.ct_pieces.specs.Submission.{submitted}
+use Rattle.ct_piece.specs.Submission.{submitted}
 use Rattle.ct_kind.specs.declared.fault.SubmitFault.{SubmitFault}
 use Rattle.ct_verify.specs.Read.{ReadingValue, unread}
 use Rattle.ct_verify.specs.Reading.{read_next}

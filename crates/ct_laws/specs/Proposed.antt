@@ -4,7 +4,7 @@ use Rattle.ct_text.specs.declared.document_lines.TheConstants.{LINE_FEED}
 use Rattle.ct_words.specs.declared.entry.Entry.{Entry}
 use Rattle.ct_duals.specs.declared.dual.Dual.{Dual}
 use Rattle.ct_finder.specs.Found.{bound_of_dual}
-use Rattle.ct_pieces.specs.Piece.{PieceValue}
+use Rattle.ct_piece.specs.Piece.{PieceValue}
 use Rattle.ct_find.specs.Proposal.{dual_evidence, find_id, found_dual, stop_for, IsProposal}
 
 -- the text proposes the dual that is found for the entry

@@ -3,12 +3,12 @@ use Rattle.std.specs.Prelude.{◌≡◌, ◌≢◌, ◌<◌, ◌≤◌, ℕ, tru
 use Rattle.ct_files.specs.Document.{DocumentValue, document_read_of}
 use Rattle.ct_files.specs.ByKind.{names, parts_of, IsChecked}
 use Rattle.ct_laws.specs.OwnRefusal.{IsOwnRefusal}
-use Rattle.ct_pieces.specs.Piece.{PieceValue, stored_by, stored_words}
-use Rattle.ct_pieces.specs.Codes.{codes_of}
-use Rattle.ct_pieces.specs.Submission.{piece_of}
-use Rattle.ct_pieces.specs.declared.limits.TheConstants.{MAX_PIECES, MAX_STORED}
-use Rattle.ct_pieces.specs.declared.fault.WithdrawFault.{WithdrawFault}
-use Rattle.ct_pieces.specs.declared.fault.WithdrawFault.TheVariants as withdraw
+use Rattle.ct_piece.specs.Piece.{PieceValue, stored_by, stored_words}
+use Rattle.ct_piece.specs.Codes.{codes_of}
+use Rattle.ct_piece.specs.Submission.{piece_of}
+use Rattle.ct_piece.specs.declared.limits.TheConstants.{MAX_PIECES, MAX_STORED}
+use Rattle.ct_piece.specs.declared.fault.WithdrawFault.{WithdrawFault}
+use Rattle.ct_piece.specs.declared.fault.WithdrawFault.TheVariants as withdraw
 use Rattle.ct_kind.specs.declared.fault.SubmitFault.{SubmitFault}
 use Rattle.ct_kind.specs.declared.fault.SubmitFault.TheVariants.{Taken, FullPieces, File, NoSuch, WrongPart, Code, Partition, Build, Dual, FullWords, Memory}
 

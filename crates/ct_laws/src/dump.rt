@@ -3,9 +3,9 @@
 ghost use Rattle.std.specs.Prelude.{◌≡◌, ℕ, ◌≤◌, List, length, All, false};
 ghost use Rattle.std.specs.List.{flat_map};
 ghost use Rattle.ct_fields.specs.declared.document.TheConstants.{MAX_DOCUMENT};
-ghost use Rattle.ct_pieces.specs.Piece.{PieceValue};
-ghost use Rattle.ct_pieces.specs.Standing.{AreStanding};
-ghost use Rattle.ct_pieces.specs.Dump.{dump_text};
+ghost use Rattle.ct_piece.specs.Piece.{PieceValue};
+ghost use Rattle.ct_piece.specs.Standing.{AreStanding};
+ghost use Rattle.ct_piece.specs.Dump.{dump_text};
 ghost use Rattle.ct_session.specs.Run.{IsRun, pieces_of};
 ghost use Rattle.ct_laws.specs.Acceptance.{acceptance_text};
 

@@ -9,8 +9,8 @@ ghost use Rattle.ct_rule_parts.specs.Slot.{claim_at};
 ghost use Rattle.ct_derive.specs.Derivation.{DerivationValue, AreOrdered};
 ghost use Rattle.ct_derive.specs.Pieces.{AreEarlier};
 ghost use Rattle.ct_files.specs.ByKind.{names};
-ghost use Rattle.ct_pieces.specs.Piece.{PieceValue};
-ghost use Rattle.ct_pieces.specs.Standing.{AreStanding};
+ghost use Rattle.ct_piece.specs.Piece.{PieceValue};
+ghost use Rattle.ct_piece.specs.Standing.{AreStanding};
 ghost use Rattle.ct_explain.specs.Explained.{ExplainsBest};
 ghost use Rattle.ct_explain.specs.Parts.{part_places, parts_of_each};
 

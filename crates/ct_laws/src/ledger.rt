@@ -19,10 +19,10 @@ ghost use Rattle.ct_rule_parts.specs.Slot.{slot_of};
 ghost use Rattle.ct_rules.specs.declared.rule.Rule.TheVariants.{U12, V10};
 ghost use Rattle.ct_rules.specs.Derivation.{IsDerived, IsBest};
 ghost use Rattle.ct_rules.specs.Rule.{premises_of, value_of};
-ghost use Rattle.ct_pieces.specs.Codes.{code_of_place};
-ghost use Rattle.ct_pieces.specs.Piece.{PieceValue};
-ghost use Rattle.ct_pieces.specs.Standing.{AreStanding};
-ghost use Rattle.ct_pieces.specs.Supports.{supports_of};
+ghost use Rattle.ct_piece.specs.Codes.{code_of_place};
+ghost use Rattle.ct_piece.specs.Piece.{PieceValue};
+ghost use Rattle.ct_piece.specs.Standing.{AreStanding};
+ghost use Rattle.ct_piece.specs.Supports.{supports_of};
 ghost use Rattle.ct_laws.specs.EvidenceSupport.{IsSupportOf};
 
 /// The best lower bound of an entry is at least the number of words of each code of it that a standing piece has, of whatever kind.

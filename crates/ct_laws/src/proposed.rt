@@ -4,7 +4,7 @@ ghost use Rattle.std.specs.Prelude.{◌≡◌, ◌≢◌, ◌≤◌, ℕ, All, A
 ghost use Rattle.std.specs.List.{flat_map};
 ghost use Rattle.ct_words.specs.declared.entry.Entry.{Entry};
 ghost use Rattle.ct_words.specs.Entry.{IsEntry};
-ghost use Rattle.ct_pieces.specs.declared.limits.TheConstants.{MAX_PIECES};
+ghost use Rattle.ct_piece.specs.declared.limits.TheConstants.{MAX_PIECES};
 ghost use Rattle.ct_session.specs.Run.{IsRun, pieces_of};
 ghost use Rattle.ct_laws.specs.Proposed.{AreProposed, taken_text};
 

@@ -11,9 +11,9 @@ ghost use Rattle.ct_commands.specs.declared.command.Command.TheVariants as comma
 ghost use Rattle.ct_words.specs.declared.claim.Side.{Side};
 ghost use Rattle.ct_words.specs.declared.entry.Entry.{Entry};
 ghost use Rattle.ct_words.specs.Entry.{IsEntry};
-ghost use Rattle.ct_pieces.specs.Piece.{PieceValue};
-ghost use Rattle.ct_pieces.specs.Standing.{AreStanding};
-ghost use Rattle.ct_pieces.specs.Supports.{supports_of};
+ghost use Rattle.ct_piece.specs.Piece.{PieceValue};
+ghost use Rattle.ct_piece.specs.Standing.{AreStanding};
+ghost use Rattle.ct_piece.specs.Supports.{supports_of};
 ghost use Rattle.ct_commands.specs.declared.command.Command.{Command};
 ghost use Rattle.ct_session.specs.Reply.{IsShownBound, IsReply, leaves_choice};
 ghost use Rattle.ct_replies.specs.declared.reply.Reply.{Reply};

@@ -4,9 +4,9 @@ use Rattle.std.specs.Prelude.{filter}
 use Rattle.ct_rule_parts.specs.declared.support.Support.{Support}
 use Rattle.ct_rules.specs.Removal.{marked, without}
 use Rattle.ct_rules.proofs.WithoutLemmas.{without-in, without-out}
-use Rattle.ct_pieces.specs.Piece.{PieceValue}
-use Rattle.ct_pieces.specs.Supports.{support_of, supports_of}
-use Rattle.ct_pieces.specs.Withdrawal.{is_among, taken_along, without_all, marks_along}
+use Rattle.ct_piece.specs.Piece.{PieceValue}
+use Rattle.ct_piece.specs.Supports.{support_of, supports_of}
+use Rattle.ct_piece.specs.Withdrawal.{is_among, taken_along, without_all, marks_along}
 
 left_supports : (out : List ℕ → Bool) (ps : List PieceValue)
     → without (marked (map (λ (p : PieceValue). out p.id) ps)) (supports_of ps) ≡ supports_of (filter (λ (p : PieceValue). not (out p.id)) ps)

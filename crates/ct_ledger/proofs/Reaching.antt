@@ -18,11 +18,11 @@ use Rattle.ct_kind.specs.declared.evidence.Evidence.TheVariants.{Odd}
 use Rattle.ct_kind.specs.Ascending.{ascending}
 use Rattle.ct_files.specs.ByKind.{kind_of, stated_entry, has_code, words_over}
 use Rattle.ct_files.proofs.GivesByKind.{gives-size, gives-coded}
-use Rattle.ct_pieces.specs.Piece.{PieceValue}
+use Rattle.ct_piece.specs.Piece.{PieceValue}
 use Rattle.ct_kind.specs.Ascending.{code_at}
-use Rattle.ct_pieces.specs.Codes.{codes_of, code_of_place}
-use Rattle.ct_pieces.specs.Supports.{support_of, supports_of}
-use Rattle.ct_pieces.specs.Standing.{AreStanding}
+use Rattle.ct_piece.specs.Codes.{codes_of, code_of_place}
+use Rattle.ct_piece.specs.Supports.{support_of, supports_of}
+use Rattle.ct_piece.specs.Standing.{AreStanding}
 use Rattle.ct_kind.proofs.AscendingLemmas.{ascending-moved}
 use Rattle.ct_kind.proofs.SizeLemmas.{code-le}
 use Rattle.ct_pieces.proofs.PartLemmas.{IsPlaced, placed, Some-piece, piece-coded}

@@ -2,20 +2,21 @@
 
 ghost use Rattle.std.specs.Prelude.{◌≡◌, ◌≢◌, ◌+◌, ◌<◌, ◌∷◌, ◌++◌, List, Ok, Err, IfOk, IfErr, IsSome, OnOk, OnErr, [], All, is_some, length};
 ghost use Rattle.ct_words.specs.Code.{IsSoundCode};
-ghost use Rattle.ct_pieces.specs.Piece.{PieceValue, stored_words};
-ghost use Rattle.ct_pieces.specs.Codes.{code_of_place};
+ghost use Rattle.ct_piece.specs.Piece.{PieceValue, stored_words};
+ghost use Rattle.ct_piece.specs.Codes.{code_of_place};
 ghost use Rattle.ct_files.specs.Document.{document_read_of, without_cites};
-ghost use Rattle.ct_pieces.specs.Submission.{submitted};
+ghost use Rattle.ct_piece.specs.Submission.{submitted};
 ghost use Rattle.ct_kind.specs.declared.fault.SubmitFault.{SubmitFault};
-ghost use Rattle.ct_pieces.specs.Withdrawal.{withdrawn, withdrawn_all};
-ghost use Rattle.ct_pieces.specs.Supports.{supports_of};
-ghost use Rattle.ct_pieces.specs.Standing.{AreStanding, HasTrueSize};
-ghost use Rattle.ct_pieces.specs.Submission.{AddsPiece};
-ghost use Rattle.ct_pieces.specs.Dump.{dump_text};
+ghost use Rattle.ct_piece.specs.Withdrawal.{withdrawn, withdrawn_all};
+ghost use Rattle.ct_piece.specs.Supports.{supports_of};
+ghost use Rattle.ct_piece.specs.Standing.{AreStanding, HasTrueSize};
+ghost use Rattle.ct_piece.specs.Submission.{AddsPiece};
+ghost use Rattle.ct_piece.specs.Dump.{dump_text};
 
 use ct_files::Evidence;
 use ct_names::Id;
-use ct_pieces::{Piece, Pieces, SubmitFault, WithdrawFault};
+use ct_piece::{Piece, SubmitFault, WithdrawFault};
+use ct_pieces::Pieces;
 use ct_rule_parts::Support;
 use ct_table::Table;
 use ct_text::Text;
@@ -41,8 +42,8 @@ impl Drop for Ledger {
 
 impl Model for Ledger {
     ghost use Rattle.std.specs.Prelude.{◌≡◌};
-    ghost use Rattle.ct_pieces.specs.Piece.{stored_words};
-    ghost use Rattle.ct_pieces.specs.Supports.{supports_of};
+    ghost use Rattle.ct_piece.specs.Piece.{stored_words};
+    ghost use Rattle.ct_piece.specs.Supports.{supports_of};
     ghost use Rattle.ct_ledger.specs.Ledger.{LedgerValue};
 
     ghost Value = { LedgerValue };

@@ -9,10 +9,10 @@ use Rattle.ct_words.proofs.EntryLemmas.{same_entry_is, same_entry-self}
 use Rattle.ct_rule_parts.specs.declared.support.Support.{Support}
 use Rattle.ct_rule_parts.specs.declared.support.Support.TheVariants.{Nothing, Size, Bound, Odd, Local}
 use Rattle.ct_rule_parts.specs.Support.{size_at}
-use Rattle.ct_pieces.specs.Codes.{code_of_place}
-use Rattle.ct_pieces.specs.Piece.{PieceValue}
-use Rattle.ct_pieces.specs.Standing.{AreStanding}
-use Rattle.ct_pieces.specs.Supports.{supports_of}
+use Rattle.ct_piece.specs.Codes.{code_of_place}
+use Rattle.ct_piece.specs.Piece.{PieceValue}
+use Rattle.ct_piece.specs.Standing.{AreStanding}
+use Rattle.ct_piece.specs.Supports.{supports_of}
 use Rattle.ct_ledger.proofs.Reaching.{size_of_code}
 use Rattle.ct_rule_codes.specs.CodeEntry.{entry_of_code}
 

@@ -2,7 +2,7 @@
 
 ghost use Rattle.std.specs.Prelude.{◌≡◌, length, slice_get, Some, IfOk, IsSome};
 ghost use Rattle.ct_rule_parts.specs.Support.{size_at};
-ghost use Rattle.ct_pieces.specs.Supports.{supports_of};
+ghost use Rattle.ct_piece.specs.Supports.{supports_of};
 ghost use Rattle.ct_rule_codes.specs.CodeEntry.{entry_of_code};
 
 use ct_ledger::Ledger;

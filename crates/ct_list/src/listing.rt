@@ -5,7 +5,7 @@ ghost use Rattle.ct_words.specs.declared.claim.Side.TheVariants.{Lower};
 ghost use Rattle.ct_words.specs.declared.entry.Entry.{Entry};
 ghost use Rattle.ct_words.specs.Entry.{IsEntry};
 ghost use Rattle.ct_derive.specs.Explanation.{IsExplanation};
-ghost use Rattle.ct_pieces.specs.Supports.{supports_of};
+ghost use Rattle.ct_piece.specs.Supports.{supports_of};
 ghost use Rattle.ct_rule_parts.specs.Slot.{claim_at};
 ghost use Rattle.ct_rules.specs.Derivation.{LineValue};
 ghost use Rattle.ct_derive.specs.Listed.{IsListedCode};

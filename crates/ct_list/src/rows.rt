@@ -3,7 +3,7 @@
 ghost use Rattle.std.specs.Prelude.{◌≡◌, IfOk};
 ghost use Rattle.ct_words.specs.declared.claim.Side.TheVariants.{Lower};
 ghost use Rattle.ct_rules.specs.Rule.{rule_side, parts_over};
-ghost use Rattle.ct_pieces.specs.Supports.{supports_of};
+ghost use Rattle.ct_piece.specs.Supports.{supports_of};
 ghost use Rattle.ct_list.specs.Inside.Rows.{AreParts, IsMadeBy};
 
 use crate::given::given_code;

@@ -7,13 +7,13 @@ use Rattle.std.proofs.lemmas.List.Folds.{list_any_more}
 use Rattle.std.proofs.lemmas.Option.{same_Some, get_or_from_slice_get}
 use Rattle.std.proofs.lemmas.Slice.Eq.{bytes_eq-Decides}
 use Rattle.ct_files.specs.ByKind.{parts_of, names}
-use Rattle.ct_pieces.specs.Piece.{PieceValue, has_id}
-use Rattle.ct_pieces.specs.Standing.{AreStanding}
-use Rattle.ct_pieces.specs.Withdrawal.{IsTakenAlong, taken_along, is_among}
-use Rattle.ct_pieces.specs.Withdrawal.IsTakenAlong.{itself, by_part}
-use Rattle.ct_pieces.proofs.EarlierParts.{part_before}
-use Rattle.ct_pieces.proofs.AlongLemmas.{has_id-at}
-use Rattle.ct_pieces.proofs.TakenAlong.{taken_are_along, has_id-take}
+use Rattle.ct_piece.specs.Piece.{PieceValue, has_id}
+use Rattle.ct_piece.specs.Standing.{AreStanding}
+use Rattle.ct_piece.specs.Withdrawal.{IsTakenAlong, taken_along, is_among}
+use Rattle.ct_piece.specs.Withdrawal.IsTakenAlong.{itself, by_part}
+use Rattle.ct_piece.proofs.EarlierParts.{part_before}
+use Rattle.ct_piece.proofs.AlongLemmas.{has_id-at}
+use Rattle.ct_piece.proofs.TakenAlong.{taken_are_along, has_id-take}
 
 -- two tests that say the same
 same_test : (a b : Bool) → (a ≡ true → b ≡ true) → (b ≡ true → a ≡ true) → a ≡ b

@@ -16,12 +16,12 @@ use Rattle.ct_kind.specs.Named.{NamedCode, first_missing, code_named, other_name
 use Rattle.ct_kind.proofs.AscendingLemmas.{ascending-moved}
 use Rattle.ct_files.specs.ByKind.{own_reason, size_over}
 use Rattle.ct_files.specs.ByKind.{evidence_reason}
-use Rattle.ct_pieces.specs.Piece.{PieceValue, place_of}
+use Rattle.ct_piece.specs.Piece.{PieceValue, place_of}
 use Rattle.ct_files.specs.ByKind.{code_over}
-use Rattle.ct_pieces.specs.Codes.{codes_of}
+use Rattle.ct_piece.specs.Codes.{codes_of}
 use Rattle.ct_files.specs.ByKind.{is_kept, kept_over}
-use Rattle.ct_pieces.specs.Inside.Kept.{kept_codes, AreKept, code_there, code_found, other_place}
-use Rattle.ct_pieces.proofs.KeptLemmas.{kept_over-none, length-kept_codes, kept-length, kept-stays}
+use Rattle.ct_piece.specs.Inside.Kept.{kept_codes, AreKept, code_there, code_found, other_place}
+use Rattle.ct_piece.proofs.KeptLemmas.{kept_over-none, length-kept_codes, kept-length, kept-stays}
 use Rattle.ct_files.proofs.StatedByKind.{IsRight, right-own}
 use Rattle.ct_pieces.proofs.PartLemmas.{IsPlaced, kept-here, found-before, found-named, found-other}
 

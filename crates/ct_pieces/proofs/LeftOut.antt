@@ -2,7 +2,7 @@
 use Rattle.std.proofs.Common.{◌≡◌, ℕ, zero, suc, ◌+◌, ◌<◌, ◌≤◌, Bool, true, false, cond, List, [], ◌∷◌, ◌++◌, length, take, drop, get_or, refl, sym, ap, ◌∙◌, append-nil, arith}
 use Rattle.std.specs.List.{SwappedAt}
 use Rattle.std.proofs.lemmas.List.{take_more, take-set-le, drop_more, drop-set-lt, length-set, take_all}
-use Rattle.ct_pieces.specs.Inside.Unmarked.{unmarked}
+use Rattle.ct_piece.specs.Inside.Unmarked.{unmarked}
 
 unmarked-none : {X : Type 0} (marks : List Bool) → unmarked {X = X} marks [] ≡ []
 unmarked-none [] = refl

@@ -11,22 +11,22 @@ use Rattle.ct_build.specs.Build.{shape_of}
 use Rattle.ct_kind.specs.Ascending.{ascending}
 use Rattle.ct_kind.specs.Named.{NamedCode, is_known, code_named, other_named}
 use Rattle.ct_files.specs.ByKind.{stated_entry, has_code, own_reason, words_over, size_over}
-use Rattle.ct_pieces.specs.Piece.{PieceValue}
+use Rattle.ct_piece.specs.Piece.{PieceValue}
 use Rattle.ct_kind.specs.Ascending.{code_at}
 use Rattle.ct_files.specs.ByKind.{code_over}
-use Rattle.ct_pieces.specs.Codes.{named_code, codes_after, codes_of, code_of_place}
-use Rattle.ct_pieces.specs.Standing.{IsMade, AreMade}
+use Rattle.ct_piece.specs.Codes.{named_code, codes_after, codes_of, code_of_place}
+use Rattle.ct_piece.specs.Standing.{IsMade, AreMade}
 use Rattle.ct_files.specs.ByKind.{kept_over, listed_code}
-use Rattle.ct_pieces.specs.Inside.Kept.{kept_codes, code_there, code_found, other_place}
-use Rattle.ct_pieces.specs.Piece.{place_of}
+use Rattle.ct_piece.specs.Inside.Kept.{kept_codes, code_there, code_found, other_place}
+use Rattle.ct_piece.specs.Piece.{place_of}
 use Rattle.ct_kind.proofs.AscendingLemmas.{ascending-moved}
-use Rattle.ct_pieces.proofs.CodeLemmas.{AreMade-take, made_at, position-some, position-none, known_where_taken}
+use Rattle.ct_piece.proofs.CodeLemmas.{AreMade-take, made_at, position-some, position-none, known_where_taken}
 use Rattle.ct_kind.specs.Sound.{HasSoundCode}
 use Rattle.ct_files.proofs.StatedByKind.{StatesCode}
 use Rattle.ct_files.proofs.StatedByKind.{IsRight, right-own, states_code}
-use Rattle.ct_pieces.proofs.MakingLemmas.{making-of, IsMade-right, codes_after-sound, code_of_place-is}
-use Rattle.ct_pieces.proofs.KeptLemmas.{place-or_listed, kept_at, listed-some, listed-none}
-use Rattle.ct_pieces.proofs.SupportLemmas.{place_of-found, place_of-none}
+use Rattle.ct_piece.proofs.MakingLemmas.{making-of, IsMade-right, codes_after-sound, code_of_place-is}
+use Rattle.ct_piece.proofs.KeptLemmas.{place-or_listed, kept_at, listed-some, listed-none}
+use Rattle.ct_piece.proofs.SupportLemmas.{place_of-found, place_of-none}
 
 -- what is known of the piece at a place
 pub record IsPlaced (ps : List PieceValue) (k : ℕ) (p : PieceValue) : Type 0 where

@@ -6,9 +6,9 @@ use Rattle.std.proofs.lemmas.Bool.{ltb-true, ltb-false}
 use Rattle.ct_classes.specs.Partition.{PartitionValue}
 use Rattle.ct_kind.specs.Named.{NamedCode, partition_named}
 use Rattle.ct_files.specs.ByKind.{kind_of}
-use Rattle.ct_pieces.specs.Piece.{PieceValue, place_of}
-use Rattle.ct_pieces.specs.Codes.{named_code, codes_after, codes_of}
-use Rattle.ct_pieces.proofs.CodeLemmas.{is_named}
+use Rattle.ct_piece.specs.Piece.{PieceValue, place_of}
+use Rattle.ct_piece.specs.Codes.{named_code, codes_after, codes_of}
+use Rattle.ct_piece.proofs.CodeLemmas.{is_named}
 
 -- the partition that a piece states, where it states one
 abbrev pub partition_in : PieceValue → Option PartitionValue

@@ -12,22 +12,22 @@ use Rattle.ct_kind.specs.declared.evidence.Evidence.{Evidence}
 use Rattle.ct_kind.specs.declared.fault.SubmitFault.{SubmitFault}
 use Rattle.ct_kind.specs.Named.{NamedCode}
 use Rattle.ct_files.specs.ByKind.{kind_of, stated_entry}
-use Rattle.ct_pieces.specs.Piece.{PieceValue, has_id, stored_by, stored_words}
-use Rattle.ct_pieces.specs.Codes.{codes_of}
-use Rattle.ct_pieces.specs.Standing.{AreStanding}
-use Rattle.ct_pieces.specs.Supports.{supports_of}
+use Rattle.ct_piece.specs.Piece.{PieceValue, has_id, stored_by, stored_words}
+use Rattle.ct_piece.specs.Codes.{codes_of}
+use Rattle.ct_piece.specs.Standing.{AreStanding}
+use Rattle.ct_piece.specs.Supports.{supports_of}
 use Rattle.ct_files.specs.ByKind.{evidence_reason}
-use Rattle.ct_pieces.specs.Submission.{made_unless, piece_of, made_of, if_stored, stored_beside, submitted}
+use Rattle.ct_piece.specs.Submission.{made_unless, piece_of, made_of, if_stored, stored_beside, submitted}
 use Rattle.ct_files.specs.Checked.{IsCheck}
 use Rattle.ct_pieces.specs.Inside.Checks.{IsRefused}
 use Rattle.ct_files.specs.ByKind.{kept_over}
-use Rattle.ct_pieces.specs.Inside.Kept.{kept_codes, AreKept}
+use Rattle.ct_piece.specs.Inside.Kept.{kept_codes, AreKept}
 use Rattle.ct_files.specs.declared.checked.Checked.{Checked}
-use Rattle.ct_pieces.specs.declared.limits.TheConstants.{MAX_PIECES, MAX_STORED}
-use Rattle.ct_pieces.proofs.Admitting.{made_of-read}
-use Rattle.ct_pieces.proofs.KeptLemmas.{kept_codes-push, kept-push}
-use Rattle.ct_pieces.proofs.StandingLemmas.{WasMade, submitted-beside, submitted-from, AreStanding-made}
-use Rattle.ct_pieces.proofs.SupportLemmas.{supports-push}
+use Rattle.ct_piece.specs.declared.limits.TheConstants.{MAX_PIECES, MAX_STORED}
+use Rattle.ct_piece.proofs.Admitting.{made_of-read}
+use Rattle.ct_piece.proofs.KeptLemmas.{kept_codes-push, kept-push}
+use Rattle.ct_piece.proofs.StandingLemmas.{WasMade, submitted-beside, submitted-from, AreStanding-made}
+use Rattle.ct_piece.proofs.SupportLemmas.{supports-push}
 
 -- evidence that its check refuses is refused, whatever is stored
 pub refused-checked : (stored : ℕ) (known : List NamedCode) (evidence : Evidence) (reason : SubmitFault) → evidence_reason known evidence ≡ Some reason

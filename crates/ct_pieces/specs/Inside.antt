@@ -1,4 +1,2 @@
 -- Words that the contracts of inner functions alone cite.
-pub mod Kept
-pub mod Unmarked
 pub mod Checks

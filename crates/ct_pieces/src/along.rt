@@ -4,17 +4,17 @@ ghost use Rattle.std.specs.Prelude.{◌≡◌, ◌||◌, ◌≤◌, ℕ, List, t
 ghost use Rattle.std.specs.List.{list_any};
 ghost use Rattle.std.specs.Str.{bytes_eq};
 ghost use Rattle.ct_files.specs.PartNames.{has_name};
-ghost use Rattle.ct_pieces.specs.Inside.Unmarked.{unmarked};
+ghost use Rattle.ct_piece.specs.Inside.Unmarked.{unmarked};
 ghost use Rattle.ct_files.specs.ByKind.{parts_of};
-ghost use Rattle.ct_pieces.specs.Piece.{stored_words};
-ghost use Rattle.ct_pieces.specs.Standing.{AreStanding};
-ghost use Rattle.ct_pieces.specs.Withdrawal.{marks_along};
-ghost use Rattle.ct_pieces.specs.declared.limits.TheConstants.{MAX_STORED};
+ghost use Rattle.ct_piece.specs.Piece.{stored_words};
+ghost use Rattle.ct_piece.specs.Standing.{AreStanding};
+ghost use Rattle.ct_piece.specs.Withdrawal.{marks_along};
+ghost use Rattle.ct_piece.specs.declared.limits.TheConstants.{MAX_STORED};
 
-use crate::piece::Piece;
 use crate::pieces::stored_by;
 use ct_files::has_part;
 use ct_names::Id;
+use ct_piece::Piece;
 use std::alloc::{AllocError, Global};
 use std::collections::HashSet;
 

@@ -8,18 +8,18 @@ ghost use Rattle.ct_kind.specs.Ascending.{code_at};
 ghost use Rattle.ct_kind.specs.declared.evidence.Evidence.TheVariants.{Build};
 ghost use Rattle.ct_kind.specs.Named.{code_named};
 ghost use Rattle.ct_files.specs.ByKind.{code_over};
-ghost use Rattle.ct_pieces.specs.Codes.{codes_of};
+ghost use Rattle.ct_piece.specs.Codes.{codes_of};
 ghost use Rattle.ct_files.specs.ByKind.{own_reason};
-ghost use Rattle.ct_pieces.specs.Standing.{AreMade};
+ghost use Rattle.ct_piece.specs.Standing.{AreMade};
 ghost use Rattle.ct_files.specs.ByKind.{is_kept};
-ghost use Rattle.ct_pieces.specs.Inside.Kept.{kept_codes, AreKept, code_there, code_found, other_place};
+ghost use Rattle.ct_piece.specs.Inside.Kept.{kept_codes, AreKept, code_there, code_found, other_place};
 
 use crate::kept::{find_code, pieces_before, place_of};
-use crate::piece::Piece;
 use ct_build_files::build_kind::{self, StatedBuild};
 use ct_files::build_of;
 use ct_kind::{Found, SubmitFault};
 use ct_names::Id;
+use ct_piece::Piece;
 use ct_words::Code;
 use std::alloc::{AllocError, Global};
 

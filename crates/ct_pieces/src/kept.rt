@@ -1,16 +1,16 @@
 //! Where pieces are found, and their codes: those that are kept beside them, and those that are made where they are needed.
 
 ghost use Rattle.std.specs.Prelude.{◌≡◌, ◌<◌, ◌≤◌, Some, IfOk, IsSome, length, take, []};
-ghost use Rattle.ct_pieces.specs.Codes.{code_of_place};
-ghost use Rattle.ct_pieces.specs.Standing.{AreMade};
-ghost use Rattle.ct_pieces.specs.Inside.Kept.{kept_codes, code_there};
-ghost use Rattle.ct_pieces.specs.Piece.{place_of};
+ghost use Rattle.ct_piece.specs.Codes.{code_of_place};
+ghost use Rattle.ct_piece.specs.Standing.{AreMade};
+ghost use Rattle.ct_piece.specs.Inside.Kept.{kept_codes, code_there};
+ghost use Rattle.ct_piece.specs.Piece.{place_of};
 
-use crate::piece::Piece;
 use crate::standing::Standing;
 use ct_files::listed_code;
 use ct_kind::Found;
 use ct_names::Id;
+use ct_piece::Piece;
 use ct_words::Code;
 use std::alloc::{AllocError, Global};
 

@@ -5,16 +5,15 @@ ghost use Rattle.ct_build.specs.Build.{FitsStated};
 ghost use Rattle.ct_files.specs.Checked.{IsCheck};
 ghost use Rattle.ct_files.specs.Evidence.{IsSound};
 ghost use Rattle.ct_kind.specs.declared.evidence.Evidence.TheVariants.{Build};
-ghost use Rattle.ct_pieces.specs.Codes.{codes_of};
-ghost use Rattle.ct_pieces.specs.Standing.{AreMade};
-ghost use Rattle.ct_pieces.specs.Inside.Kept.{kept_codes, AreKept};
+ghost use Rattle.ct_piece.specs.Codes.{codes_of};
+ghost use Rattle.ct_piece.specs.Standing.{AreMade};
+ghost use Rattle.ct_piece.specs.Inside.Kept.{kept_codes, AreKept};
 
 use crate::builds::make_code;
-use crate::piece::Piece;
 use crate::standing::Standing;
 use ct_build_files::build_kind::{self, StatedBuild};
 use ct_files::{Checked, Evidence, build_of, check_listed};
-use ct_kind::SubmitFault;
+use ct_piece::{Piece, SubmitFault};
 use ct_words::Code;
 use std::alloc::Global;
 

@@ -4,30 +4,26 @@ ghost use Rattle.std.specs.Prelude.{◌≡◌, ◌≢◌, ◌<◌, ◌+◌, ◌^
 ghost use Rattle.ct_words.specs.Code.{IsSoundCode};
 ghost use Rattle.ct_names.specs.Id.{is_id};
 ghost use Rattle.ct_files.specs.Document.{document_read_of, value_of, without_cites};
-ghost use Rattle.ct_pieces.specs.Piece.{PieceValue, has_id, stored_by, stored_words, first_user};
-ghost use Rattle.ct_pieces.specs.Codes.{code_of_place};
-ghost use Rattle.ct_pieces.specs.Submission.{submitted, unless_full};
+ghost use Rattle.ct_piece.specs.Piece.{PieceValue, has_id, stored_by, stored_words, first_user};
+ghost use Rattle.ct_piece.specs.Codes.{code_of_place};
+ghost use Rattle.ct_piece.specs.Submission.{submitted, unless_full};
 ghost use Rattle.ct_kind.specs.declared.fault.SubmitFault.{SubmitFault};
-ghost use Rattle.ct_pieces.specs.Withdrawal.{withdrawn, withdrawn_all, taken_along, without_all, marks_along};
-ghost use Rattle.ct_pieces.specs.Standing.{AreStanding, HasTrueSize};
-ghost use Rattle.ct_pieces.specs.Dump.{dump_text};
-ghost use Rattle.ct_pieces.specs.Submission.{AddsPiece};
-ghost use Rattle.ct_pieces.specs.Supports.{supports_of};
-ghost use Rattle.ct_pieces.specs.Piece.{place_of};
+ghost use Rattle.ct_piece.specs.Withdrawal.{withdrawn, withdrawn_all, taken_along, without_all, marks_along};
+ghost use Rattle.ct_piece.specs.Standing.{AreStanding, HasTrueSize};
+ghost use Rattle.ct_piece.specs.Dump.{dump_text};
+ghost use Rattle.ct_piece.specs.Submission.{AddsPiece};
+ghost use Rattle.ct_piece.specs.Supports.{supports_of};
+ghost use Rattle.ct_piece.specs.Piece.{place_of};
 
 use crate::along::{leave_out, marks_along, stored_words};
 use crate::builds::keep_code;
 use crate::check::{accept, read};
-use crate::dump::put_dump;
-use crate::fault::WithdrawFault;
 use crate::kept::{code_at_place, place_of};
-use crate::limits::MAX_PIECES;
 use crate::new_piece::NewPiece;
-use crate::piece::Piece;
 use crate::standing::has_code;
 use ct_files::{Checked, Document, Evidence, kind_of, names, stored_for};
-use ct_kind::SubmitFault;
 use ct_names::Id;
+use ct_piece::{MAX_PIECES, Piece, SubmitFault, WithdrawFault, put_dump};
 use ct_text::Text;
 use ct_words::Code;
 use std::alloc::{AllocError, Global};
@@ -53,9 +49,9 @@ impl Drop for Pieces {
 
 impl Model for Pieces {
     ghost use Rattle.std.specs.Prelude.{◌≡◌, List};
-    ghost use Rattle.ct_pieces.specs.Piece.{PieceValue, stored_words};
-    ghost use Rattle.ct_pieces.specs.Standing.{AreStanding};
-    ghost use Rattle.ct_pieces.specs.Inside.Kept.{kept_codes, AreKept};
+    ghost use Rattle.ct_piece.specs.Piece.{PieceValue, stored_words};
+    ghost use Rattle.ct_piece.specs.Standing.{AreStanding};
+    ghost use Rattle.ct_piece.specs.Inside.Kept.{kept_codes, AreKept};
 
     ghost Value = { List PieceValue };
 
@@ -194,7 +190,7 @@ impl Pieces {
     }
 
     /// `submit` of a document that is handed over, and so is not copied.
-    #[tactic(auto, unfolding(crate::specs::Submission::submitted))]
+    #[tactic(auto, unfolding(ct_piece::specs::Submission::submitted))]
     pub fn submit_text(&mut self, id: Id, document: Text) -> Result<NewPiece, SubmitFault>
         ensures accepted { IfOk result (λ new_piece. AddsPiece self.old self.new id document new_piece.size) }
         ensures supports { IfOk result (λ new_piece. supports_of self.new ≡ supports_of self.old ++ new_piece.support ∷ []) }
@@ -209,7 +205,7 @@ impl Pieces {
 
     /// `submit_text` of a document without cites that is handed over with the evidence that it reads as: the document is kept, and is not
     /// read again.
-    #[tactic(auto, unfolding(crate::specs::Submission::submitted))]
+    #[tactic(auto, unfolding(ct_piece::specs::Submission::submitted))]
     pub fn admit(
         &mut self,
         id: Id,

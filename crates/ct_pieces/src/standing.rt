@@ -5,16 +5,16 @@ ghost use Rattle.std.specs.Option.{ForSome};
 ghost use Rattle.ct_build.specs.Build.{shape_of, IsShape};
 ghost use Rattle.ct_kind.specs.Named.{is_known, partition_named};
 ghost use Rattle.ct_kind.specs.Sound.{AreSound};
-ghost use Rattle.ct_pieces.specs.Codes.{codes_of, code_of_place};
-ghost use Rattle.ct_pieces.specs.Standing.{AreMade};
+ghost use Rattle.ct_piece.specs.Codes.{codes_of, code_of_place};
+ghost use Rattle.ct_piece.specs.Standing.{AreMade};
 
 use crate::kept::place_of;
-use crate::piece::Piece;
 use ct_build::Shape;
 use ct_build_files::Codes;
 use ct_files::{kind_of, partition_of};
 use ct_kind::{Partitions, StatedPartition};
 use ct_names::Id;
+use ct_piece::Piece;
 use std::marker::Model;
 
 /// Whether a piece has the id.
@@ -75,8 +75,8 @@ pub(crate) struct Standing<'a> {
 
 impl<'a> Model for Standing<'a> {
     ghost use Rattle.std.specs.Prelude.{List, []};
-    ghost use Rattle.ct_pieces.specs.Piece.{PieceValue};
-    ghost use Rattle.ct_pieces.specs.Standing.{AreMade};
+    ghost use Rattle.ct_piece.specs.Piece.{PieceValue};
+    ghost use Rattle.ct_piece.specs.Standing.{AreMade};
 
     ghost Value = { List PieceValue };
 
@@ -96,7 +96,7 @@ impl<'a> Standing<'a> {
 }
 
 impl<'b> Codes for Standing<'b> {
-    ghost use Rattle.ct_pieces.specs.Codes.{codes_of};
+    ghost use Rattle.ct_piece.specs.Codes.{codes_of};
 
     ghost known = { λ pieces. codes_of pieces };
 
@@ -113,7 +113,7 @@ impl<'b> Codes for Standing<'b> {
 }
 
 impl<'b> Partitions for Standing<'b> {
-    ghost use Rattle.ct_pieces.specs.Codes.{codes_of};
+    ghost use Rattle.ct_piece.specs.Codes.{codes_of};
 
     ghost known = { λ pieces. codes_of pieces };
 

@@ -8,8 +8,8 @@ use Rattle.std.proofs.Math.Seq.{take-add}
 use Rattle.std.proofs.lemmas.List.{take-append-drop}
 use Rattle.ct_words.specs.Code.{CodeValue}
 use Rattle.ct_text.specs.EntryText.{weight_word}
-use Rattle.ct_pieces.specs.Piece.{PieceValue}
-use Rattle.ct_pieces.specs.Dump.{piece_dump, dump_text}
+use Rattle.ct_piece.specs.Piece.{PieceValue}
+use Rattle.ct_piece.specs.Dump.{piece_dump, dump_text}
 use Rattle.ct_replies.specs.Text.{code_heading}
 
 -- ---- the dump

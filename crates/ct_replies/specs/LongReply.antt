@@ -1,7 +1,7 @@
 -- What answers a command, and what is still to be put for it.
 use Rattle.std.specs.Prelude.{ℕ, List, [], Option, None, Some}
-use Rattle.ct_pieces.specs.Piece.{PieceValue}
-use Rattle.ct_pieces.specs.Dump.{dump_text}
+use Rattle.ct_piece.specs.Piece.{PieceValue}
+use Rattle.ct_piece.specs.Dump.{dump_text}
 use Rattle.ct_replies.specs.Text.{code_text}
 use Rattle.ct_replies.specs.declared.reply.AnyReply.{AnyReply}
 use Rattle.ct_replies.specs.declared.reply.AnyReply.TheVariants.{Short, Long}

@@ -6,9 +6,9 @@ use Rattle.ct_text.specs.declared.document_lines.TheConstants.{LINE_FEED}
 use Rattle.ct_words.specs.Text.{word_text}
 use Rattle.ct_words.specs.Code.{CodeValue}
 use Rattle.ct_text.specs.EntryText.{entry_text, entry_words}
-use Rattle.ct_pieces.specs.Piece.{PieceValue}
+use Rattle.ct_piece.specs.Piece.{PieceValue}
 use Rattle.ct_files.specs.Refusal.{submit_fault_text}
-use Rattle.ct_pieces.specs.Text.{withdraw_fault_text, size_text, piece_text}
+use Rattle.ct_piece.specs.Text.{withdraw_fault_text, size_text, piece_text}
 use Rattle.ct_rule_codes.specs.CodeEntry.{entry_of_code}
 use Rattle.ct_replies.specs.declared.reply.Reply.{Reply}
 use Rattle.ct_replies.specs.declared.reply.Reply.TheVariants.{Accepted, Withdrawn, WithdrawnAll, Shown, Table, Lines, Refused}

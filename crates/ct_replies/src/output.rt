@@ -11,7 +11,7 @@ use crate::output::code::put_code;
 use crate::output::dump::put_dump;
 use crate::reply::LongReply;
 use ct_io::{Failed, Sink, SinkBuffer};
-use ct_pieces::Piece;
+use ct_piece::Piece;
 
 /// Puts a long reply, where these pieces stand, as `SinkBuffer::put` does.
 pub fn put_long<K: Sink>(

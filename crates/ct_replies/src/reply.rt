@@ -1,7 +1,7 @@
 //! Replies to commands.
 
 use ct_names::Id;
-use ct_pieces::{SubmitFault, WithdrawFault};
+use ct_piece::{SubmitFault, WithdrawFault};
 use ct_text::Text;
 use ct_words::{Code, Entry, Listed};
 

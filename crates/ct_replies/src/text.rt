@@ -5,12 +5,12 @@ ghost use Rattle.std.specs.Fmt.{decimal};
 ghost use Rattle.std.specs.List.{flat_map};
 ghost use Rattle.ct_text.specs.EntryText.{entry_text};
 ghost use Rattle.ct_text.specs.Growing.{Grows};
-ghost use Rattle.ct_pieces.specs.Text.{size_text, piece_text};
+ghost use Rattle.ct_piece.specs.Text.{size_text, piece_text};
 ghost use Rattle.ct_replies.specs.Text.{refusal_text, bounds_text, reply_text, ended, ledger_text};
 
 use crate::reply::{Bounds, Refusal, Reply};
 use ct_files::submit_refusal;
-use ct_pieces::{Piece, put_size, withdraw_refusal};
+use ct_piece::{Piece, put_size, withdraw_refusal};
 use ct_text::{LINE_FEED, put_entry, put_number};
 use std::alloc::{AllocError, Global};
 

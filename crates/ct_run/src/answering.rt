@@ -67,7 +67,7 @@ pub(crate) struct LedgerAnswers {
 
 impl Model for LedgerAnswers {
     ghost use Rattle.std.specs.Prelude.{List};
-    ghost use Rattle.ct_pieces.specs.Piece.{PieceValue};
+    ghost use Rattle.ct_piece.specs.Piece.{PieceValue};
 
     ghost Value = { List PieceValue };
 

@@ -4,11 +4,11 @@ use Rattle.std.specs.Int.{from_bool}
 use Rattle.std.proofs.lemmas.List.{map-append}
 use Rattle.ct_kind.specs.declared.evidence.Evidence.{Evidence}
 use Rattle.ct_files.specs.Document.{without_cites, document_read_of}
-use Rattle.ct_pieces.specs.Piece.{PieceValue}
-use Rattle.ct_pieces.specs.Submission.{submitted, with_piece}
-use Rattle.ct_pieces.specs.Withdrawal.{withdrawn, left_by}
+use Rattle.ct_piece.specs.Piece.{PieceValue}
+use Rattle.ct_piece.specs.Submission.{submitted, with_piece}
+use Rattle.ct_piece.specs.Withdrawal.{withdrawn, left_by}
 use Rattle.ct_kind.specs.declared.fault.SubmitFault.{SubmitFault}
-use Rattle.ct_pieces.specs.declared.fault.WithdrawFault.{WithdrawFault}
+use Rattle.ct_piece.specs.declared.fault.WithdrawFault.{WithdrawFault}
 use Rattle.ct_sample.specs.Run.{RunValue, without_document, without_documents, made_without_document, after_submission, after_withdrawal}
 use Rattle.ct_sample.proofs.WithoutDocuments.{bare_made, bare_left, made-without_documents, withdrawn-without_documents}
 

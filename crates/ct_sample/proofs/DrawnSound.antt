@@ -14,7 +14,7 @@ use Rattle.ct_build.specs.declared.step.Step.TheVariants.{Lengthen}
 use Rattle.ct_sum_classes.proofs.SumClasses.{sum_class-below}
 use Rattle.ct_kind.specs.declared.evidence.Evidence.{Evidence}
 use Rattle.ct_files.specs.Evidence.{IsSound}
-use Rattle.ct_pieces.specs.Piece.{PieceValue}
+use Rattle.ct_piece.specs.Piece.{PieceValue}
 use Rattle.ct_sample.specs.Drawn.{class_evidence, drawn_words, golay_word, golay_words, drawn_cosets, dual_of_ones, drawn_dual, is_code_kind, may_lengthen, lengthening, last_lengthening, drawn_evidence}
 use Rattle.ct_sample.proofs.DrawnClasses.{class_some, class_few}
 

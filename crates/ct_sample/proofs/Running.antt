@@ -9,21 +9,21 @@ use Rattle.ct_files.specs.Document.{DocumentValue, without_cites}
 use Rattle.ct_files.specs.Evidence.{IsSound}
 use Rattle.ct_kind.specs.Named.{NamedCode}
 use Rattle.ct_files.specs.ByKind.{words_over}
-use Rattle.ct_pieces.specs.Piece.{PieceValue, has_id, stored_words, first_user}
-use Rattle.ct_pieces.specs.Codes.{named_code, codes_of}
-use Rattle.ct_pieces.specs.Submission.{made_of, stored_beside, with_piece}
-use Rattle.ct_pieces.specs.Supports.{support_of, supports_of}
-use Rattle.ct_pieces.specs.Withdrawal.{without, unless_used, withdrawn, left_by}
+use Rattle.ct_piece.specs.Piece.{PieceValue, has_id, stored_words, first_user}
+use Rattle.ct_piece.specs.Codes.{named_code, codes_of}
+use Rattle.ct_piece.specs.Submission.{made_of, stored_beside, with_piece}
+use Rattle.ct_piece.specs.Supports.{support_of, supports_of}
+use Rattle.ct_piece.specs.Withdrawal.{without, unless_used, withdrawn, left_by}
 use Rattle.ct_kind.specs.declared.fault.SubmitFault.{SubmitFault}
-use Rattle.ct_pieces.specs.declared.fault.WithdrawFault.{WithdrawFault}
-use Rattle.ct_pieces.specs.declared.fault.WithdrawFault.TheVariants as withdraw
-use Rattle.ct_pieces.proofs.CodeLemmas.{codes_of-push}
+use Rattle.ct_piece.specs.declared.fault.WithdrawFault.{WithdrawFault}
+use Rattle.ct_piece.specs.declared.fault.WithdrawFault.TheVariants as withdraw
+use Rattle.ct_piece.proofs.CodeLemmas.{codes_of-push}
 use Rattle.ct_kind.specs.Sound.{AreSound, HasSoundCode}
 use Rattle.ct_files.proofs.StatedByKind.{IsRight, states_code, over-sound}
-use Rattle.ct_pieces.proofs.MakingLemmas.{making}
-use Rattle.ct_pieces.proofs.LeavingLemmas.{other_than, ArePassed-others, codes-passing}
-use Rattle.ct_pieces.proofs.SupportLemmas.{supports-push}
-use Rattle.ct_pieces.proofs.StandingLemmas.{unless_full-ok, stored_beside-ok}
+use Rattle.ct_piece.proofs.MakingLemmas.{making}
+use Rattle.ct_piece.proofs.LeavingLemmas.{other_than, ArePassed-others, codes-passing}
+use Rattle.ct_piece.proofs.SupportLemmas.{supports-push}
+use Rattle.ct_piece.proofs.StandingLemmas.{unless_full-ok, stored_beside-ok}
 use Rattle.ct_sample.specs.Command.{step_id, first_unused, command_of}
 use Rattle.ct_sample.specs.Drawn.{drawn_evidence}
 use Rattle.ct_sample.specs.Inside.Sound.{IsSoundCommand}

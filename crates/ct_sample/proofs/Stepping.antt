@@ -1,7 +1,7 @@
 -- A step of the sample's run.
 use Rattle.std.proofs.Common.{◌≡◌, ℕ, suc, ◌+◌, ◌<◌, ◌≤◌, ◌^◌, List, Option, sym, ap, ◌∙◌, subst, arith}
 use Rattle.std.specs.Prelude.{IfSome}
-use Rattle.ct_pieces.specs.Piece.{PieceValue}
+use Rattle.ct_piece.specs.Piece.{PieceValue}
 use Rattle.ct_sample.specs.Random.{next, seed, drawn}
 use Rattle.ct_sample.specs.Command.{command_of}
 use Rattle.ct_sample.specs.Inside.Sound.{IsSoundCommand}

@@ -12,7 +12,7 @@ use Rattle.ct_rule_parts.specs.Support.{AllStand}
 use Rattle.ct_rules.specs.Derivation.{IsBest}
 use Rattle.ct_rules.proofs.BestValues.{closed_bounds_exist}
 use Rattle.ct_rules.proofs.ClosedBounds.{AreTrue-from_derived, closed_bound_is_best, best_is_one}
-use Rattle.ct_pieces.specs.Supports.{supports_of}
+use Rattle.ct_piece.specs.Supports.{supports_of}
 use Rattle.ct_sample.specs.Run.{RunValue, run_to}
 use Rattle.ct_words.specs.TableEntries.{table_entries}
 use Rattle.ct_sample.specs.Summary.{AreBest, tally_of, IsSummary, summary_text, IsSampleOutput}

@@ -11,18 +11,18 @@ use Rattle.ct_files.specs.Document.{DocumentValue, without_cites, document_read_
 use Rattle.ct_rule_parts.specs.declared.support.Support.{Support}
 use Rattle.ct_kind.specs.Named.{NamedCode}
 use Rattle.ct_files.specs.ByKind.{names}
-use Rattle.ct_pieces.specs.Piece.{PieceValue, has_id, stored_by, stored_words, first_user}
-use Rattle.ct_pieces.specs.Codes.{named_code, codes_after, codes_of}
+use Rattle.ct_piece.specs.Piece.{PieceValue, has_id, stored_by, stored_words, first_user}
+use Rattle.ct_piece.specs.Codes.{named_code, codes_after, codes_of}
 use Rattle.ct_files.specs.ByKind.{evidence_reason}
-use Rattle.ct_pieces.specs.Submission.{piece_of, made_unless, made_of, stored_beside, unless_full, submitted}
-use Rattle.ct_pieces.specs.Supports.{support_of, supports_of}
-use Rattle.ct_pieces.specs.Withdrawal.{without, unless_used, withdrawn}
-use Rattle.ct_pieces.specs.declared.limits.TheConstants.{MAX_PIECES, MAX_STORED}
+use Rattle.ct_piece.specs.Submission.{piece_of, made_unless, made_of, stored_beside, unless_full, submitted}
+use Rattle.ct_piece.specs.Supports.{support_of, supports_of}
+use Rattle.ct_piece.specs.Withdrawal.{without, unless_used, withdrawn}
+use Rattle.ct_piece.specs.declared.limits.TheConstants.{MAX_PIECES, MAX_STORED}
 use Rattle.ct_kind.specs.declared.fault.SubmitFault.{SubmitFault}
-use Rattle.ct_pieces.proofs.Admitting.{made_of-read}
+use Rattle.ct_piece.proofs.Admitting.{made_of-read}
 use Rattle.ct_kind.specs.declared.fault.SubmitFault.TheVariants as fault
-use Rattle.ct_pieces.specs.declared.fault.WithdrawFault.{WithdrawFault}
-use Rattle.ct_pieces.specs.declared.fault.WithdrawFault.TheVariants as withdraw
+use Rattle.ct_piece.specs.declared.fault.WithdrawFault.{WithdrawFault}
+use Rattle.ct_piece.specs.declared.fault.WithdrawFault.TheVariants as withdraw
 use Rattle.ct_sample.specs.Drawn.{may_lengthen, lengthening, last_lengthening, drawn_dual, drawn_words, drawn_cosets, drawn_evidence}
 use Rattle.ct_sample.specs.Command.{step_id, is_used, command_of}
 use Rattle.ct_sample.specs.declared.command.Command.TheVariants.{Submit, Withdraw}

@@ -3,7 +3,7 @@ use Rattle.std.specs.Prelude.{ℕ, ◌%◌, ◌==◌, Bool, not, if◌then◌els
 use Rattle.std.specs.List.{list_any}
 use Rattle.std.specs.Fmt.{decimal}
 use Rattle.ct_files.specs.ByKind.{names}
-use Rattle.ct_pieces.specs.Piece.{PieceValue}
+use Rattle.ct_piece.specs.Piece.{PieceValue}
 use Rattle.ct_sample.specs.Drawn.{drawn_evidence}
 use Rattle.ct_sample.specs.declared.command.Command.{Command}
 use Rattle.ct_sample.specs.declared.command.Command.TheVariants.{Submit, Withdraw}

@@ -6,7 +6,7 @@ use Rattle.ct_sum_classes.specs.SumClass.{sum_class}
 use Rattle.ct_build.specs.declared.step.Step.TheVariants.{Lengthen}
 use Rattle.ct_kind.specs.declared.evidence.Evidence.{Evidence}
 use Rattle.ct_kind.specs.declared.evidence.Evidence.TheVariants.{Words, Cosets, Build, Dual}
-use Rattle.ct_pieces.specs.Piece.{PieceValue}
+use Rattle.ct_piece.specs.Piece.{PieceValue}
 
 -- the words of the sum class r of length n and weight w, in ascending order, stated for distance 4
 abbrev pub class_evidence : ℕ → ℕ → ℕ → Evidence

@@ -3,7 +3,7 @@ use Rattle.std.specs.Prelude.{[], ◌∷◌, Some, None, codes}
 use Rattle.ct_words.specs.Entry.{constant_weight}
 use Rattle.ct_build.specs.declared.step.Step.TheVariants.{Lengthen}
 use Rattle.ct_kind.specs.declared.evidence.Evidence.TheVariants.{Words, Build}
-use Rattle.ct_pieces.specs.Piece.{PieceValue}
+use Rattle.ct_piece.specs.Piece.{PieceValue}
 use Rattle.ct_sample.specs.Drawn.{dual_of_ones}
 
 -- a word of length 16, the piece s7

@@ -1,14 +1,14 @@
 -- The run of the sample: what its commands leave. The document of a piece is written from its evidence, and nothing else is said of it; so the run
 -- speaks of the pieces without their documents.
 use Rattle.std.specs.Prelude.{ℕ, zero, suc, ◌+◌, if◌then◌else◌, List, [], length, Option, Some, None, Result, is_ok, map}
-use Rattle.ct_pieces.specs.Piece.{PieceValue, has_id, stored_words}
+use Rattle.ct_piece.specs.Piece.{PieceValue, has_id, stored_words}
 use Rattle.ct_kind.specs.declared.evidence.Evidence.{Evidence}
 use Rattle.ct_files.specs.Document.{without_cites}
-use Rattle.ct_pieces.specs.Codes.{codes_of}
-use Rattle.ct_pieces.specs.Submission.{made_of, stored_beside, unless_full, with_piece}
-use Rattle.ct_pieces.specs.Withdrawal.{withdrawn, left_by}
+use Rattle.ct_piece.specs.Codes.{codes_of}
+use Rattle.ct_piece.specs.Submission.{made_of, stored_beside, unless_full, with_piece}
+use Rattle.ct_piece.specs.Withdrawal.{withdrawn, left_by}
 use Rattle.ct_kind.specs.declared.fault.SubmitFault.{SubmitFault}
-use Rattle.ct_pieces.specs.declared.fault.WithdrawFault.{WithdrawFault}
+use Rattle.ct_piece.specs.declared.fault.WithdrawFault.{WithdrawFault}
 use Rattle.ct_sample.specs.Random.{drawn}
 use Rattle.ct_sample.specs.Command.{command_of}
 use Rattle.ct_sample.specs.declared.command.Command.{Command}

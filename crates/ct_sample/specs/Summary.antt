@@ -8,7 +8,7 @@ use Rattle.ct_words.specs.Entry.{IsEntry}
 use Rattle.ct_rule_parts.specs.declared.support.Support.{Support}
 use Rattle.ct_rule_parts.specs.Slot.{Slot}
 use Rattle.ct_rules.specs.Derivation.{IsBest}
-use Rattle.ct_pieces.specs.Supports.{supports_of}
+use Rattle.ct_piece.specs.Supports.{supports_of}
 use Rattle.ct_sample.specs.Run.{run_to}
 use Rattle.ct_words.specs.TableEntries.{table_entries}
 use Rattle.ct_sample.specs.declared.summary.Summary.{Summary}

@@ -1,7 +1,7 @@
 //! The evidence that a step of the sample submits.
 
 ghost use Rattle.std.specs.Prelude.{◌≡◌, ◌≤◌, IfOk};
-ghost use Rattle.ct_pieces.specs.Piece.{PieceValue};
+ghost use Rattle.ct_piece.specs.Piece.{PieceValue};
 ghost use Rattle.ct_sample.specs.Drawn.{drawn_words, golay_words, drawn_cosets, drawn_dual, is_code_kind, may_lengthen, lengthening, last_lengthening, drawn_evidence};
 
 use ct_build::Step;

@@ -3,9 +3,9 @@
 ghost use Rattle.std.specs.Prelude.{◌≡◌, ◌≢◌, ◌≤◌, ◌<◌, ◌+◌, ◌^◌, [], IfOk, OnOk, Some, IfSome, Ok, false, is_ok, length};
 ghost use Rattle.ct_files.specs.Document.{document_read_of, without_cites};
 ghost use Rattle.ct_files.specs.Evidence.{IsSound};
-ghost use Rattle.ct_pieces.specs.Submission.{submitted, with_piece};
-ghost use Rattle.ct_pieces.specs.Supports.{supports_of};
-ghost use Rattle.ct_pieces.specs.Withdrawal.{withdrawn, left_by};
+ghost use Rattle.ct_piece.specs.Submission.{submitted, with_piece};
+ghost use Rattle.ct_piece.specs.Supports.{supports_of};
+ghost use Rattle.ct_piece.specs.Withdrawal.{withdrawn, left_by};
 ghost use Rattle.ct_sample.specs.Run.{without_documents, made_without_document, after_submission, after_withdrawal, after_command, no_commands, run_to};
 ghost use Rattle.ct_sample.specs.Inside.Sound.{IsSoundCommand};
 
@@ -13,9 +13,8 @@ use crate::command::{Command, command_of};
 use crate::random::next;
 use ct_files::write_evidence;
 use ct_kind::Evidence;
-use ct_ledger::{Ledger, MAX_PIECES, Piece, SubmitFault, WithdrawFault};
+use ct_ledger::{Ledger, MAX_PIECES, Piece, SubmitFault, Table, WithdrawFault};
 use ct_names::Id;
-use ct_table::Table;
 use ct_text::Text;
 use std::alloc::{AllocError, Global};
 use std::marker::Model;

@@ -6,7 +6,7 @@ ghost use Rattle.ct_words.specs.Entry.{IsEntry};
 ghost use Rattle.ct_rule_parts.specs.Slot.{Slot};
 ghost use Rattle.ct_sample.specs.Summary.{AreBest, tally_of};
 
-use ct_table::Table;
+use ct_ledger::Table;
 use ct_words::Entry;
 
 /// Entries of a table by their bounds.

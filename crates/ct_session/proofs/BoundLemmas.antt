@@ -13,10 +13,10 @@ use Rattle.ct_rule_parts.specs.declared.support.Support.{Support}
 use Rattle.ct_rules.specs.Derivation.{IsBest}
 use Rattle.ct_rules.proofs.BestValues.{best_exists, best_is_true}
 use Rattle.ct_rules.proofs.ClosedBounds.{best_is_one}
-use Rattle.ct_pieces.specs.Piece.{PieceValue}
-use Rattle.ct_pieces.specs.Standing.{AreStanding}
-use Rattle.ct_pieces.specs.Supports.{supports_of}
-use Rattle.ct_pieces.proofs.SupportLemmas.{supports_stand}
+use Rattle.ct_piece.specs.Piece.{PieceValue}
+use Rattle.ct_piece.specs.Standing.{AreStanding}
+use Rattle.ct_piece.specs.Supports.{supports_of}
+use Rattle.ct_piece.proofs.SupportLemmas.{supports_stand}
 use Rattle.ct_session.specs.Reply.{IsShownBound, AreBoundsOf}
 use Rattle.ct_replies.specs.declared.reply.Bounds.{Bounds}
 

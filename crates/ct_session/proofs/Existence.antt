@@ -13,18 +13,18 @@ use Rattle.ct_commands.specs.Command.{commands_of}
 use Rattle.ct_commands.specs.declared.command.Command.{Command}
 use Rattle.ct_commands.specs.declared.command.Command.TheVariants as command
 use Rattle.ct_commands.proofs.Naming.{CommandIsNamed, AreNamed, commands_of-named}
-use Rattle.ct_pieces.specs.Piece.{PieceValue}
-use Rattle.ct_pieces.specs.Submission.{submitted}
-use Rattle.ct_pieces.specs.Withdrawal.{withdrawn, withdrawn_all}
-use Rattle.ct_pieces.specs.Standing.{AreStanding}
-use Rattle.ct_pieces.specs.Dump.{dump_text}
+use Rattle.ct_piece.specs.Piece.{PieceValue}
+use Rattle.ct_piece.specs.Submission.{submitted}
+use Rattle.ct_piece.specs.Withdrawal.{withdrawn, withdrawn_all}
+use Rattle.ct_piece.specs.Standing.{AreStanding}
+use Rattle.ct_piece.specs.Dump.{dump_text}
 use Rattle.ct_kind.specs.Ascending.{ascending}
 use Rattle.ct_kind.specs.Ascending.{code_at}
-use Rattle.ct_pieces.specs.Supports.{supports_of}
+use Rattle.ct_piece.specs.Supports.{supports_of}
 use Rattle.ct_kind.proofs.AscendingLemmas.{ascending-moved}
 use Rattle.ct_kind.proofs.CodeAt.{code_at-sound}
-use Rattle.ct_pieces.proofs.StandingLemmas.{AreStanding-none, AreStanding-submitted, AreStanding-withdrawn}
-use Rattle.ct_pieces.proofs.TakenAlong.{AreStanding-withdrawn_all}
+use Rattle.ct_piece.proofs.StandingLemmas.{AreStanding-none, AreStanding-submitted, AreStanding-withdrawn}
+use Rattle.ct_piece.proofs.TakenAlong.{AreStanding-withdrawn_all}
 use Rattle.ct_rules.specs.Derivation.{IsBest}
 use Rattle.ct_explain.specs.Explained.{explanation_text}
 use Rattle.ct_explain.proofs.ExplainedBounds.{explained}

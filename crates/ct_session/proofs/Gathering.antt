@@ -5,7 +5,7 @@ use Rattle.std.specs.List.{flat_map}
 use Rattle.std.specs.Option.{option_to_list}
 use Rattle.ct_commands.specs.Command.{completed_by}
 use Rattle.ct_commands.specs.declared.command.Command.{Command}
-use Rattle.ct_pieces.specs.Piece.{PieceValue}
+use Rattle.ct_piece.specs.Piece.{PieceValue}
 use Rattle.ct_session.specs.Run.{AreReplies}
 use Rattle.ct_replies.specs.LongReply.{owed_text}
 use Rattle.ct_replies.specs.Text.{reply_text}

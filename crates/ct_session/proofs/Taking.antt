@@ -9,8 +9,8 @@ use Rattle.ct_commands.specs.Command.{completed, completed_by, open_after, open_
 use Rattle.ct_commands.specs.declared.command.Command.{Command}
 use Rattle.ct_commands.specs.declared.command_reader.Pending.{Pending}
 use Rattle.ct_commands.proofs.Naming.{names-append, completed-named, cut_off-named, open_after_all-named}
-use Rattle.ct_pieces.specs.Piece.{PieceValue}
-use Rattle.ct_pieces.proofs.StandingLemmas.{AreStanding-none}
+use Rattle.ct_piece.specs.Piece.{PieceValue}
+use Rattle.ct_piece.proofs.StandingLemmas.{AreStanding-none}
 use Rattle.ct_session.specs.Reply.{pieces_after}
 use Rattle.ct_session.specs.Run.{AnswersCommands, IsRun}
 use Rattle.ct_session.specs.Serve.{WritesRunPrefix, WritesRunProperPrefix}

@@ -13,13 +13,13 @@ use Rattle.ct_rule_parts.specs.Slot.{claim_at}
 use Rattle.ct_text.specs.EntryNumbers.{named_entry}
 use Rattle.ct_commands.specs.declared.command.Command.{Command}
 use Rattle.ct_commands.specs.declared.command.Command.TheVariants as command
-use Rattle.ct_pieces.specs.Piece.{PieceValue}
-use Rattle.ct_pieces.specs.Submission.{submitted, with_piece}
-use Rattle.ct_pieces.specs.Withdrawal.{withdrawn, withdrawn_all, left_by}
-use Rattle.ct_pieces.specs.Dump.{dump_text}
-use Rattle.ct_pieces.specs.Supports.{supports_of}
+use Rattle.ct_piece.specs.Piece.{PieceValue}
+use Rattle.ct_piece.specs.Submission.{submitted, with_piece}
+use Rattle.ct_piece.specs.Withdrawal.{withdrawn, withdrawn_all, left_by}
+use Rattle.ct_piece.specs.Dump.{dump_text}
+use Rattle.ct_piece.specs.Supports.{supports_of}
 use Rattle.ct_kind.specs.declared.fault.SubmitFault.{SubmitFault}
-use Rattle.ct_pieces.specs.declared.fault.WithdrawFault.{WithdrawFault}
+use Rattle.ct_piece.specs.declared.fault.WithdrawFault.{WithdrawFault}
 use Rattle.ct_derive.specs.Derivation.{DerivationValue}
 use Rattle.ct_explain.specs.Explained.{ExplainsBest, explanation_text}
 use Rattle.ct_derive.specs.Listed.{IsListedCode}

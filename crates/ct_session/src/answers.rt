@@ -2,7 +2,7 @@
 
 ghost use Rattle.std.specs.Prelude.{◌≡◌, List, IfOk, OnOk};
 ghost use Rattle.ct_io.specs.Buffered.{buffered, IsPut};
-ghost use Rattle.ct_pieces.specs.Piece.{PieceValue};
+ghost use Rattle.ct_piece.specs.Piece.{PieceValue};
 ghost use Rattle.ct_replies.specs.LongReply.{long_text, reply_of};
 ghost use Rattle.ct_session.specs.Reply.{IsReply, pieces_after};
 

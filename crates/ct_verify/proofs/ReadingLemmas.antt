@@ -17,14 +17,14 @@ use Rattle.ct_rules.specs.declared.rule.Rule.{Rule}
 use Rattle.ct_rules.specs.Rule.{rule_side}
 use Rattle.ct_rules.specs.Derivation.{LineValue, IsDerivation}
 use Rattle.ct_rules.proofs.Derivations.{derivation-nil}
-use Rattle.ct_pieces.specs.Piece.{PieceValue}
-use Rattle.ct_pieces.specs.Submission.{submitted}
-use Rattle.ct_pieces.specs.Standing.{AreStanding}
-use Rattle.ct_pieces.specs.Supports.{supports_of}
+use Rattle.ct_piece.specs.Piece.{PieceValue}
+use Rattle.ct_piece.specs.Submission.{submitted}
+use Rattle.ct_piece.specs.Standing.{AreStanding}
+use Rattle.ct_piece.specs.Supports.{supports_of}
 use Rattle.ct_kind.specs.declared.fault.SubmitFault.{SubmitFault}
 use Rattle.ct_kind.specs.declared.fault.SubmitFault.TheVariants.{Memory}
-use Rattle.ct_pieces.proofs.StandingLemmas.{AreStanding-none, AreStanding-submitted}
-use Rattle.ct_pieces.proofs.NoMemory.{submitted-memory}
+use Rattle.ct_piece.proofs.StandingLemmas.{AreStanding-none, AreStanding-submitted}
+use Rattle.ct_piece.proofs.NoMemory.{submitted-memory}
 use Rattle.ct_derive.specs.Check.{line_fault, line_by}
 use Rattle.ct_derive.specs.declared.check.LineFault.{LineFault}
 use Rattle.ct_derive.specs.declared.check.LineFault.TheVariants.{NoRule, NoPremise, OtherValue}

@@ -14,7 +14,7 @@ use Rattle.ct_rules.specs.Rule.{rule_side, arguments_of, with_arguments, with_pl
 use Rattle.ct_rules.specs.Listing.{rule_named}
 use Rattle.ct_rules.proofs.RuleNames.{argued-side, rule_named-is}
 use Rattle.ct_rules.proofs.LawfulRows.{parts_of-placed}
-use Rattle.ct_pieces.specs.Piece.{PieceValue, place_of}
+use Rattle.ct_piece.specs.Piece.{PieceValue, place_of}
 use Rattle.ct_verify.specs.StatedRule.{first_argument, second_argument, first_id, numbered, citing, with_words, stated_rule, resolved}
 use Rattle.ct_text.specs.Side.{side_of_word}
 use Rattle.ct_verify.specs.StatedLine.{StatedLineValue, entry_of_words, bound_of_word, premises_of_words, claim_of, line_from, with_rule, with_reason, with_value, line_of}

@@ -4,8 +4,8 @@ use Rattle.std.specs.Prelude.{Result, Ok, Err, IfOk}
 use Rattle.ct_io.specs.Lines.{lines_of, IsNextLine}
 use Rattle.ct_io.proofs.LinesLemmas.{lines_of-from_next}
 use Rattle.ct_rules.proofs.Derivations.{lines_are_true}
-use Rattle.ct_pieces.specs.Supports.{supports_of}
-use Rattle.ct_pieces.proofs.SupportLemmas.{supports_stand}
+use Rattle.ct_piece.specs.Supports.{supports_of}
+use Rattle.ct_piece.proofs.SupportLemmas.{supports_stand}
 use Rattle.ct_kind.specs.declared.fault.SubmitFault.TheVariants.{Memory}
 use Rattle.ct_verify.specs.Read.{ReadingValue, unread}
 use Rattle.ct_verify.specs.Reading.{read_next}

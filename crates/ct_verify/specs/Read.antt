@@ -1,7 +1,7 @@
 -- What was read of a derivation document.
 use Rattle.std.specs.Prelude.{List, []}
 use Rattle.ct_rules.specs.Derivation.{LineValue}
-use Rattle.ct_pieces.specs.Piece.{PieceValue}
+use Rattle.ct_piece.specs.Piece.{PieceValue}
 use Rattle.ct_verify.specs.declared.part.Part.{Part}
 use Rattle.ct_verify.specs.declared.part.Part.TheVariants.{Start}
 

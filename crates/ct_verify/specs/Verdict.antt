@@ -3,8 +3,8 @@ use Rattle.std.specs.Prelude.{◌≡◌, ℕ, ◌+◌, List, [], ◌∷◌, All}
 use Rattle.ct_io.specs.Lines.{lines_of}
 use Rattle.ct_words.specs.Claim.{IsTrueClaim}
 use Rattle.ct_rules.specs.Derivation.{IsDerivation}
-use Rattle.ct_pieces.specs.Standing.{AreStanding}
-use Rattle.ct_pieces.specs.Supports.{supports_of}
+use Rattle.ct_piece.specs.Standing.{AreStanding}
+use Rattle.ct_piece.specs.Supports.{supports_of}
 use Rattle.ct_verify.specs.Read.{ReadingValue, unread}
 use Rattle.ct_verify.specs.Reading.{read_next}
 use Rattle.ct_verify.specs.declared.verdict.Why.TheVariants.{Form}

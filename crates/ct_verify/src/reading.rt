@@ -18,7 +18,7 @@ pub struct Reading {
 
 impl Model for Reading {
     ghost use Rattle.std.specs.Prelude.{◌≡◌};
-    ghost use Rattle.ct_pieces.specs.Supports.{supports_of};
+    ghost use Rattle.ct_piece.specs.Supports.{supports_of};
     ghost use Rattle.ct_verify.specs.Read.{ReadingValue};
 
     ghost Value = { ReadingValue };

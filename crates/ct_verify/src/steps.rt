@@ -4,7 +4,7 @@ ghost use Rattle.std.specs.Prelude.{◌≡◌, ◌≢◌, ◌<◌, ◌^◌, [], 
 ghost use Rattle.ct_text.specs.Line.{words_of};
 ghost use Rattle.ct_text.specs.Gathering.{gathered};
 ghost use Rattle.ct_rules.specs.Rule.{rule_side};
-ghost use Rattle.ct_pieces.specs.Submission.{submitted};
+ghost use Rattle.ct_piece.specs.Submission.{submitted};
 ghost use Rattle.ct_verify.specs.Heading.{heading_of};
 ghost use Rattle.ct_verify.specs.StatedLine.{StatedLineValue, line_of};
 ghost use Rattle.ct_verify.specs.Read.{unread};
@@ -20,7 +20,8 @@ use crate::stated_line::{StatedLine, parse_line};
 use crate::verdict::{Verdict, Why};
 use ct_derive::{ClassSizes, LineFault, add_line};
 use ct_names::Id;
-use ct_pieces::{Pieces, SubmitFault};
+use ct_piece::SubmitFault;
+use ct_pieces::Pieces;
 use ct_rules::Rule;
 use ct_text::{Gathered, Gathering, Text, first_words};
 use std::alloc::{AllocError, Global};

@@ -1,6 +1,6 @@
 //! Verdicts on derivation documents.
 
-use ct_pieces::SubmitFault;
+use ct_piece::SubmitFault;
 
 /// Why a text line of a derivation document fails: the first of these that holds of it, but for a block of evidence, which fails
 /// on the line on which it begins.

@@ -4,11 +4,11 @@ ghost use Rattle.std.specs.Prelude.{◌++◌, codes};
 ghost use Rattle.std.specs.Fmt.{decimal};
 ghost use Rattle.std.specs.List.{flat_map};
 ghost use Rattle.ct_io.specs.Buffered.{buffered, IsPut};
-ghost use Rattle.ct_pieces.specs.Dump.{dump_text, piece_dump};
+ghost use Rattle.ct_piece.specs.Dump.{dump_text, piece_dump};
 
 use ct_commands::submission_parts;
 use ct_io::{Failed, Sink, SinkBuffer};
-use ct_pieces::Piece;
+use ct_piece::Piece;
 use ct_text::{Digits, line_count};
 
 /// Puts the submission of a piece.

@@ -6,8 +6,8 @@ ghost use Rattle.ct_words.specs.Entry.{IsEntry};
 ghost use Rattle.ct_words.specs.TableEntries.{column};
 ghost use Rattle.ct_text.specs.EntryNumbers.{named_entry};
 ghost use Rattle.ct_commands.specs.declared.command.Command.TheVariants as command;
-ghost use Rattle.ct_pieces.specs.Submission.{submitted, with_piece};
-ghost use Rattle.ct_pieces.specs.Withdrawal.{withdrawn, withdrawn_all, left_by};
+ghost use Rattle.ct_piece.specs.Submission.{submitted, with_piece};
+ghost use Rattle.ct_piece.specs.Withdrawal.{withdrawn, withdrawn_all, left_by};
 ghost use Rattle.ct_session.specs.Reply.{IsReply, AreBoundsOf, IsShowReply, IsTableReply, IsExplainReply, pieces_after, submission_reply, withdrawal_reply, withdrawal_all_reply};
 
 use crate::answering::explaining;

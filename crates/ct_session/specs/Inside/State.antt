@@ -2,7 +2,7 @@
 use Rattle.std.specs.Prelude.{◌≡◌, ℕ, Bool, false, ◌||◌, List, [], ◌++◌, fold, Option, None}
 use Rattle.ct_commands.specs.Command.{completed, open_after_all}
 use Rattle.ct_commands.specs.declared.command_reader.Pending.{Pending}
-use Rattle.ct_pieces.specs.Piece.{PieceValue}
+use Rattle.ct_piece.specs.Piece.{PieceValue}
 use Rattle.ct_session.specs.Reply.{pieces_after}
 use Rattle.ct_session.specs.Run.{AnswersCommands}
 

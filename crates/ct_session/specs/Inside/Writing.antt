@@ -5,7 +5,7 @@ use Rattle.ct_io.specs.Reader.{Reader, NeedsNoRead}
 use Rattle.ct_io.specs.declared.run_fault.RunFault.{RunFault}
 use Rattle.ct_io.specs.declared.run_fault.RunFault.TheVariants.{Write, Memory}
 use Rattle.ct_commands.specs.declared.command.Command.{Command}
-use Rattle.ct_pieces.specs.Piece.{PieceValue}
+use Rattle.ct_piece.specs.Piece.{PieceValue}
 use Rattle.ct_replies.specs.Text.{reply_text}
 use Rattle.ct_replies.specs.declared.reply.Reply.{Reply}
 use Rattle.ct_session.specs.Reply.{IsReply}

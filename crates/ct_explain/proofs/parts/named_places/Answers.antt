@@ -1,6 +1,6 @@
 use Rattle.std.proofs.Common.{ℕ, ◌++◌, ◌∷◌, [], List, ap, sym, ◌∙◌}
 use Rattle.ct_files.specs.ByKind.{names}
-use Rattle.ct_pieces.specs.Piece.{PieceValue}
+use Rattle.ct_piece.specs.Piece.{PieceValue}
 use Rattle.ct_explain.proofs.PartPlaces.{place_found, place_passed}
 use Rattle.ct_explain.proofs.parts.named_places.Goals as goal
 use Rattle.ct_explain.proofs.parts.named_places.Goals.{then-names+in_ok-push, else-names}

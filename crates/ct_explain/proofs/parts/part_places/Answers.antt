@@ -6,4 +6,4 @@ use Rattle.ct_explain.proofs.parts.part_places.Goals as goal
 pub returns-then-not-has_parts : goal.returns-then-not-has_parts
 returns-then-not-has_parts c =
     let none = ap parts_of (sym c.evidence.ensures.evidence) ∙ c.has_parts.ensures.0 c.if-not-has_parts.true in
-    c.new-then-not-has_parts.ensures ∙ c.new.ensures.items ∙ sym (no_places c.args.piece.now.evidence 0 c.args.pieces.now none)
+    c.new-then-not-has_parts.ensures ∙ c.new.ensures.items ∙ sym (no_places c.args.piece.now 0 c.args.pieces.now none)

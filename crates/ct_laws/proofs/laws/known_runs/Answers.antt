@@ -8,9 +8,9 @@ use Rattle.ct_words.specs.declared.claim.Side.TheVariants.{Lower, Upper}
 use Rattle.ct_words.specs.Entry.{unrestricted, constant_weight}
 use Rattle.ct_words.proofs.Counting.Binomials.{choose_all}
 use Rattle.ct_commands.specs.Form.{form_of}
-use Rattle.ct_pieces.specs.Dump.{dump_text}
-use Rattle.ct_pieces.specs.Withdrawal.{withdrawn, withdrawn_all}
-use Rattle.ct_pieces.specs.declared.fault.WithdrawFault.TheVariants as withdraw
+use Rattle.ct_piece.specs.Dump.{dump_text}
+use Rattle.ct_piece.specs.Withdrawal.{withdrawn, withdrawn_all}
+use Rattle.ct_piece.specs.declared.fault.WithdrawFault.TheVariants as withdraw
 use Rattle.ct_rules.specs.declared.rule.Rule.TheVariants.{M1, V0, V1}
 use Rattle.ct_rules.specs.Rule.{row_of}
 use Rattle.ct_explain.specs.Explained.{explanation_text}

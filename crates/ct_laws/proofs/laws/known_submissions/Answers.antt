@@ -15,11 +15,11 @@ use Rattle.ct_laws.proofs.OnLiterals.{evidence_on_literals}
 use Rattle.ct_kind.specs.declared.evidence.Evidence.TheVariants.{Words, Cosets}
 use Rattle.ct_fields.specs.declared.fault.DocumentFault.TheVariants as file
 use Rattle.ct_commands.specs.Form.{form_of}
-use Rattle.ct_pieces.specs.Piece.{PieceValue}
-use Rattle.ct_pieces.specs.Submission.{submitted}
+use Rattle.ct_piece.specs.Piece.{PieceValue}
+use Rattle.ct_piece.specs.Submission.{submitted}
 use Rattle.ct_kind.specs.declared.fault.SubmitFault.TheVariants as submit
 use Rattle.ct_replies.specs.Text.{reply_text, ledger_text}
-use Rattle.ct_pieces.specs.Withdrawal.{withdrawn_all}
+use Rattle.ct_piece.specs.Withdrawal.{withdrawn_all}
 use Rattle.ct_kind.specs.Ascending.{ascending}
 use Rattle.ct_build.specs.Build.{build_fault, early_fault, few_fault, sizes_fault, result_size, built, step_distance, other_of, is_right_other, is_right_weight, gives_weight, is_right_length}
 use Rattle.ct_replies.specs.declared.reply.Reply.TheVariants.{Accepted, WithdrawnAll, Shown, Lines, Refused}

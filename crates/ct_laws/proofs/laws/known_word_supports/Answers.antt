@@ -5,7 +5,7 @@ use Rattle.ct_words.specs.Word.{weight, distance}
 use Rattle.ct_words.specs.Check.{code_fault}
 use Rattle.ct_laws.proofs.OnLiterals.{evidence_on_literals}
 use Rattle.ct_commands.specs.Form.{form_of}
-use Rattle.ct_pieces.specs.Submission.{submitted}
+use Rattle.ct_piece.specs.Submission.{submitted}
 use Rattle.ct_laws.proofs.laws.known_word_supports.Goals as goal
 
 pub returns : goal.returns

@@ -1,7 +1,7 @@
 use Rattle.std.proofs.Common.{[], ◌∙◌, sym}
 use Rattle.std.proofs.lemmas.List.Elements.{All-nil}
-use Rattle.ct_pieces.proofs.CodeLemmas.{ids_of_codes}
-use Rattle.ct_pieces.proofs.MakingLemmas.{codes_after-sound}
+use Rattle.ct_piece.proofs.CodeLemmas.{ids_of_codes}
+use Rattle.ct_piece.proofs.MakingLemmas.{codes_after-sound}
 use Rattle.ct_kind.specs.Sound.{HasSoundCode}
 use Rattle.ct_pieces.proofs.PartLemmas.{piece-coded}
 use Rattle.ct_laws.proofs.pieces.pieces_have_codes.Goals as goal

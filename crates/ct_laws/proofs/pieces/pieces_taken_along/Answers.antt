@@ -1,4 +1,4 @@
-use Rattle.ct_pieces.proofs.TakenAlong.{taken_are_along, least_along, refused_along, free_along, withdrawn_all-stand}
+use Rattle.ct_piece.proofs.TakenAlong.{taken_are_along, least_along, refused_along, free_along, withdrawn_all-stand}
 use Rattle.ct_laws.proofs.pieces.pieces_taken_along.Goals as goal
 
 pub returns-clause-taken : goal.returns-clause-taken

@@ -1,5 +1,5 @@
 use Rattle.std.proofs.Common.{List, sym, subst}
-use Rattle.ct_pieces.specs.Piece.{PieceValue}
+use Rattle.ct_piece.specs.Piece.{PieceValue}
 use Rattle.ct_session.specs.Reply.{IsReply}
 use Rattle.ct_session.specs.Run.{pieces_of}
 use Rattle.ct_session.proofs.BoundLemmas.{shown_once}

@@ -1,7 +1,7 @@
 use Rattle.ct_io.specs.Lines.{lines_of}
 use Rattle.ct_rules.proofs.Derivations.{lines_are_true}
-use Rattle.ct_pieces.specs.Supports.{supports_of}
-use Rattle.ct_pieces.proofs.SupportLemmas.{supports_stand}
+use Rattle.ct_piece.specs.Supports.{supports_of}
+use Rattle.ct_piece.proofs.SupportLemmas.{supports_stand}
 use Rattle.ct_verify.specs.Read.{unread}
 use Rattle.ct_verify.proofs.ReadingLemmas.{unread-sound}
 use Rattle.ct_verify.proofs.VerdictLemmas.{AreRead-sound, read_from_yes, yes_from_read, never_memory, lines_where_done}

@@ -3,8 +3,8 @@ use Rattle.std.proofs.Math.Seq.{get_or-append_seam}
 use Rattle.std.proofs.lemmas.List.{length-map}
 use Rattle.ct_rule_parts.specs.declared.support.Support.{Support}
 use Rattle.ct_rule_parts.specs.Support.{Stands, AllStand}
-use Rattle.ct_pieces.specs.Supports.{support_of}
-use Rattle.ct_pieces.proofs.SupportLemmas.{supports_stand}
+use Rattle.ct_piece.specs.Supports.{support_of}
+use Rattle.ct_piece.proofs.SupportLemmas.{supports_stand}
 use Rattle.ct_ledger.proofs.ledger.put_support.Goals as goal
 
 pub add-requires-clause-stands : goal.add-requires-clause-stands

@@ -7,7 +7,7 @@ use Rattle.ct_derive.specs.Explanation.{IsExplanation}
 use Rattle.ct_list.specs.Inside.Kept.{AreKept, named_by}
 use Rattle.ct_list.proofs.KeptCodes.{kept-none}
 use Rattle.ct_derive.proofs.PrunedLines.{some_at}
-use Rattle.ct_pieces.specs.Supports.{supports_of}
+use Rattle.ct_piece.specs.Supports.{supports_of}
 use Rattle.ct_list.proofs.Walk.{some_lines, one_kept, last_code_here}
 use Rattle.ct_list.proofs.listing.last_code.Goals as goal
 

@@ -1,6 +1,6 @@
 use Rattle.std.proofs.Common.{ap, ◌∙◌}
 use Rattle.ct_words.specs.declared.entry.Entry.{Entry}
-use Rattle.ct_pieces.specs.Supports.{supports_of}
+use Rattle.ct_piece.specs.Supports.{supports_of}
 use Rattle.ct_list.proofs.Walk.{explained_by, listed}
 use Rattle.ct_list.proofs.listing.list.Goals as goal
 

@@ -1,7 +1,7 @@
 use Rattle.std.proofs.Common.{◌≡◌, ◌+◌, ◌<◌, All, length, drop, IfOk, refl, sym, subst, ◌∙◌}
 use Rattle.std.proofs.lemmas.Option.{slice_get_read, same_Some}
 use Rattle.ct_rules.specs.Derivation.{LineValue}
-use Rattle.ct_pieces.specs.Supports.{supports_of}
+use Rattle.ct_piece.specs.Supports.{supports_of}
 use Rattle.ct_list.specs.Inside.Kept.{IsCodeFor, AreKept, named_by}
 use Rattle.ct_list.proofs.Walk.{read_line, on_ok, earlier, kept_here, kept_later, lower_rule, parts_here, code_here}
 use Rattle.ct_list.proofs.listing.next_code.Goals as goal

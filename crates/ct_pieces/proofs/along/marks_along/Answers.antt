@@ -3,8 +3,8 @@ use Rattle.std.specs.Prelude.{slice_get}
 use Rattle.std.proofs.lemmas.List.{map-append, take_all, take_more}
 use Rattle.std.proofs.lemmas.Option.{slice_get-get_or}
 use Rattle.ct_files.specs.PartNames.{has_name}
-use Rattle.ct_pieces.specs.Piece.{PieceValue}
-use Rattle.ct_pieces.specs.Withdrawal.{taken_along, is_among}
+use Rattle.ct_piece.specs.Piece.{PieceValue}
+use Rattle.ct_piece.specs.Withdrawal.{taken_along, is_among}
 use Rattle.ct_pieces.proofs.AlongPass.{AreGone, AreGone-more, AreGone-same, goes_is}
 use Rattle.ct_pieces.proofs.along.marks_along.Goals as goal
 use Rattle.ct_pieces.proofs.along.marks_along.Goals.{then-gone+in_ok-put_name, else-gone}

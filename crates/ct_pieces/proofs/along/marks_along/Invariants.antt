@@ -1,7 +1,7 @@
 use Rattle.std.proofs.Common.{◌≡◌, map, take}
 use Rattle.ct_files.specs.PartNames.{has_name}
-use Rattle.ct_pieces.specs.Piece.{PieceValue}
-use Rattle.ct_pieces.specs.Withdrawal.{taken_along, is_among}
+use Rattle.ct_piece.specs.Piece.{PieceValue}
+use Rattle.ct_piece.specs.Withdrawal.{taken_along, is_among}
 use Rattle.ct_pieces.proofs.AlongPass.{AreGone}
 use Rattle.ct_pieces.proofs.along.marks_along.Given as goal
 

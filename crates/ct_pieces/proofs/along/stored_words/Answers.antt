@@ -1,6 +1,6 @@
 use Rattle.std.proofs.Common.{List, arith, take_all, ap, ◌∙◌}
 use Rattle.std.proofs.lemmas.List.Sums.{sum_by-take-le, sum_by_more}
-use Rattle.ct_pieces.specs.Piece.{PieceValue, stored_by, stored_words}
+use Rattle.ct_piece.specs.Piece.{PieceValue, stored_by, stored_words}
 use Rattle.ct_pieces.proofs.along.stored_words.Goals as goal
 
 pub returns : goal.returns

@@ -1,5 +1,5 @@
 use Rattle.std.proofs.Common.{◌≡◌, take}
-use Rattle.ct_pieces.specs.Piece.{stored_words}
+use Rattle.ct_piece.specs.Piece.{stored_words}
 use Rattle.ct_pieces.proofs.along.stored_words.Given as goal
 
 -- how many words those so far store

@@ -6,10 +6,10 @@ use Rattle.ct_words.specs.Code.{CodeValue}
 use Rattle.ct_kind.specs.declared.evidence.Evidence.{Evidence}
 use Rattle.ct_kind.specs.declared.fault.SubmitFault.{SubmitFault}
 use Rattle.ct_kind.specs.declared.fault.SubmitFault.TheVariants as fault
-use Rattle.ct_pieces.specs.Piece.{PieceValue, place_of}
+use Rattle.ct_piece.specs.Piece.{PieceValue, place_of}
 use Rattle.ct_files.specs.ByKind.{is_kept}
-use Rattle.ct_pieces.specs.Inside.Kept.{kept_codes, code_there, code_found, other_place}
-use Rattle.ct_pieces.proofs.KeptLemmas.{kept-all, kept-some, kept-set, kept-grows, kept-trans}
+use Rattle.ct_piece.specs.Inside.Kept.{kept_codes, code_there, code_found, other_place}
+use Rattle.ct_piece.proofs.KeptLemmas.{kept-all, kept-some, kept-set, kept-grows, kept-trans}
 use Rattle.ct_pieces.proofs.PartLemmas.{placed, none-from, found-before}
 use Rattle.ct_pieces.proofs.BuildPlaces.{kept-within, kept-long, build-placed, build-there, none-there, part-within, other-within, found-code, found-coded, stays-found}
 use Rattle.ct_pieces.proofs.builds.+keeping.Invariants.{depth}

@@ -6,7 +6,7 @@ use Rattle.ct_build_files.specs.BuildKind.{built_over, step_reason}
 use Rattle.ct_kind.specs.Ascending.{code_at}
 use Rattle.ct_kind.specs.declared.fault.SubmitFault.{SubmitFault}
 use Rattle.ct_kind.specs.declared.fault.SubmitFault.TheVariants as fault
-use Rattle.ct_pieces.proofs.KeptLemmas.{none-some}
+use Rattle.ct_piece.proofs.KeptLemmas.{none-some}
 use Rattle.ct_pieces.proofs.builds.code_of_found.Goals as goal
 
 pub unreachable-requires : goal.unreachable-requires

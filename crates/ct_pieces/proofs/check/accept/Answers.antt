@@ -1,11 +1,11 @@
 use Rattle.std.proofs.lemmas.Result.{err_from_is_err_and}
-use Rattle.ct_pieces.specs.Codes.{codes_of}
+use Rattle.ct_piece.specs.Codes.{codes_of}
 use Rattle.ct_pieces.proofs.Putting.{refused-checked, refused-stored}
 use Rattle.std.proofs.Common.{List, Option, [], sym, subst}
 use Rattle.ct_words.specs.Code.{CodeValue}
-use Rattle.ct_pieces.specs.Piece.{PieceValue}
-use Rattle.ct_pieces.specs.Standing.{AreMade}
-use Rattle.ct_pieces.specs.Inside.Kept.{kept_codes, AreKept}
+use Rattle.ct_piece.specs.Piece.{PieceValue}
+use Rattle.ct_piece.specs.Standing.{AreMade}
+use Rattle.ct_piece.specs.Inside.Kept.{kept_codes, AreKept}
 use Rattle.ct_pieces.proofs.check.accept.Goals as goal
 
 pub returns-in_err-checked-clause-fault : goal.returns-in_err-checked-clause-fault

@@ -3,12 +3,12 @@ use Rattle.std.proofs.lemmas.List.{get_or_read}
 use Rattle.std.proofs.lemmas.Result.{IfOk-weaker}
 use Rattle.ct_words.specs.Code.{CodeValue}
 use Rattle.ct_kind.specs.declared.evidence.Evidence.{Evidence}
-use Rattle.ct_pieces.specs.Piece.{PieceValue}
-use Rattle.ct_pieces.specs.Codes.{code_of_place, codes_of}
-use Rattle.ct_pieces.specs.Standing.{AreMade}
+use Rattle.ct_piece.specs.Piece.{PieceValue}
+use Rattle.ct_piece.specs.Codes.{code_of_place, codes_of}
+use Rattle.ct_piece.specs.Standing.{AreMade}
 use Rattle.ct_files.specs.ByKind.{listed_code}
-use Rattle.ct_pieces.proofs.CodeLemmas.{AreMade-take}
-use Rattle.ct_pieces.proofs.KeptLemmas.{none-some}
+use Rattle.ct_piece.proofs.CodeLemmas.{AreMade-take}
+use Rattle.ct_piece.proofs.KeptLemmas.{none-some}
 use Rattle.ct_pieces.proofs.PartLemmas.{placed, kept-found, kept-none, listed-faultless}
 use Rattle.ct_pieces.proofs.kept.code_at_place.Goals as goal
 

@@ -1,11 +1,11 @@
 use Rattle.std.proofs.Common.{◌<◌, List, length, [], None, subst, sym, ap₂, ◌∙◌}
 use Rattle.std.proofs.lemmas.List.{get_or_read}
 use Rattle.ct_kind.specs.declared.evidence.Evidence.{Evidence}
-use Rattle.ct_pieces.specs.Piece.{PieceValue}
-use Rattle.ct_pieces.specs.Codes.{codes_of}
-use Rattle.ct_pieces.specs.Standing.{AreMade}
+use Rattle.ct_piece.specs.Piece.{PieceValue}
+use Rattle.ct_piece.specs.Codes.{codes_of}
+use Rattle.ct_piece.specs.Standing.{AreMade}
 use Rattle.ct_files.specs.ByKind.{listed_code}
-use Rattle.ct_pieces.proofs.CodeLemmas.{AreMade-take}
+use Rattle.ct_piece.proofs.CodeLemmas.{AreMade-take}
 use Rattle.ct_pieces.proofs.PartLemmas.{placed, kept-found, kept-none, listed-faultless}
 use Rattle.ct_pieces.proofs.kept.find_code.Goals as goal
 

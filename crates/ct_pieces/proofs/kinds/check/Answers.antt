@@ -1,8 +1,8 @@
 use Rattle.std.proofs.Common.{List, sym, subst}
 use Rattle.ct_kind.specs.declared.evidence.Evidence.{Evidence}
 use Rattle.ct_files.specs.Evidence.{IsSound}
-use Rattle.ct_pieces.specs.Codes.{codes_of}
-use Rattle.ct_pieces.specs.Piece.{PieceValue}
+use Rattle.ct_piece.specs.Codes.{codes_of}
+use Rattle.ct_piece.specs.Piece.{PieceValue}
 use Rattle.ct_files.specs.Checked.{IsCheck}
 use Rattle.ct_pieces.proofs.kinds.check.Goals as goal
 

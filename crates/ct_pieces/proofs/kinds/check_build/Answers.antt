@@ -7,9 +7,9 @@ use Rattle.ct_kind.specs.KindParts.{support_from}
 use Rattle.ct_kind.specs.Named.{code_named, first_missing}
 use Rattle.ct_kind.specs.declared.evidence.Evidence.TheVariants.{Build}
 use Rattle.ct_files.specs.ByKind.{own_reason, size_over}
-use Rattle.ct_pieces.specs.Piece.{PieceValue}
+use Rattle.ct_piece.specs.Piece.{PieceValue}
 use Rattle.ct_files.specs.ByKind.{code_over}
-use Rattle.ct_pieces.specs.Codes.{codes_of}
+use Rattle.ct_piece.specs.Codes.{codes_of}
 use Rattle.ct_files.specs.ByKind.{evidence_reason}
 use Rattle.ct_files.specs.Checked.{IsKept}
 use Rattle.ct_pieces.proofs.BuildPlaces.{code-sized, reason-own}

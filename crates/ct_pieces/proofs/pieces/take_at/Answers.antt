@@ -1,6 +1,6 @@
 use Rattle.std.proofs.Common.{◌+◌, ℕ, List, remove, ap, ◌∙◌}
 use Rattle.std.proofs.lemmas.List.Sums.{sum_by-remove}
-use Rattle.ct_pieces.specs.Piece.{PieceValue, stored_by, stored_words}
+use Rattle.ct_piece.specs.Piece.{PieceValue, stored_by, stored_words}
 use Rattle.ct_pieces.proofs.pieces.take_at.Goals as goal
 
 pub returns-clause-stored : goal.returns-clause-stored

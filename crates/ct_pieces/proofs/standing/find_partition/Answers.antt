@@ -1,7 +1,7 @@
 use Rattle.std.proofs.Common.{sym, ap, ◌∙◌}
 use Rattle.ct_kind.specs.declared.evidence.Evidence.{Evidence}
 use Rattle.ct_files.specs.ByKind.{kind_of}
-use Rattle.ct_pieces.specs.Piece.{PieceValue}
+use Rattle.ct_piece.specs.Piece.{PieceValue}
 use Rattle.ct_pieces.proofs.PartitionPlaces.{partition_in, partition-some, partition-none}
 use Rattle.ct_pieces.proofs.standing.find_partition.Goals as goal
 

@@ -2,7 +2,7 @@ use Rattle.std.proofs.Common.{List, ℕ, ◌++◌, length, ap, ◌∙◌}
 use Rattle.std.specs.Prelude.{codes}
 use Rattle.std.specs.Fmt.{decimal}
 use Rattle.std.specs.List.{flat_map}
-use Rattle.ct_pieces.specs.Text.{piece_text}
+use Rattle.ct_piece.specs.Text.{piece_text}
 use Rattle.ct_text.proofs.GrowingTexts.{puts-three}
 use Rattle.ct_replies.specs.Text.{ended}
 use Rattle.ct_replies.proofs.text.ledger_text.Goals as goal

@@ -1,7 +1,7 @@
 use Rattle.std.proofs.Common.{List, ℕ, ◌++◌, ap, ◌∙◌, take_all}
 use Rattle.std.specs.List.{flat_map}
-use Rattle.ct_pieces.specs.Piece.{PieceValue}
-use Rattle.ct_pieces.specs.Text.{piece_text}
+use Rattle.ct_piece.specs.Piece.{PieceValue}
+use Rattle.ct_piece.specs.Text.{piece_text}
 use Rattle.ct_text.proofs.GrowingTexts.{puts-more}
 use Rattle.ct_replies.specs.Text.{ended}
 use Rattle.ct_replies.proofs.Puts.{puts-item}

@@ -1,6 +1,6 @@
 use Rattle.std.proofs.Common.{◌≡◌, ◌++◌, take}
 use Rattle.std.specs.List.{flat_map}
-use Rattle.ct_pieces.specs.Text.{piece_text}
+use Rattle.ct_piece.specs.Text.{piece_text}
 use Rattle.ct_replies.specs.Text.{ended}
 use Rattle.ct_replies.proofs.text.put_pieces.Given as goal
 

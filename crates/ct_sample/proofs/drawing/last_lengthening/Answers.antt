@@ -1,6 +1,6 @@
 use Rattle.std.proofs.Common.{◌≡◌, ◌+◌, ◌∷◌, ◌++◌, [], take, Bool, cond, Some, sym, ap, ◌∙◌}
 use Rattle.std.proofs.lemmas.List.{take_more}
-use Rattle.ct_pieces.specs.Piece.{PieceValue}
+use Rattle.ct_piece.specs.Piece.{PieceValue}
 use Rattle.ct_sample.specs.Drawn.{may_lengthen, lengthening, last_lengthening}
 use Rattle.ct_sample.proofs.WithoutDocuments.{last-more}
 use Rattle.ct_sample.proofs.drawing.last_lengthening.Goals as goal

@@ -2,9 +2,9 @@ use Rattle.std.proofs.Common.{List, Ok, ◌≡◌, sym, ap, ◌∙◌, subst}
 use Rattle.std.specs.Prelude.{remove}
 use Rattle.ct_rule_parts.specs.declared.support.Support.{Support}
 use Rattle.ct_ledger.specs.Ledger.{LedgerValue}
-use Rattle.ct_pieces.specs.Withdrawal.{withdrawn}
-use Rattle.ct_pieces.specs.Supports.{supports_of}
-use Rattle.ct_pieces.proofs.SupportLemmas.{supports-remove}
+use Rattle.ct_piece.specs.Withdrawal.{withdrawn}
+use Rattle.ct_piece.specs.Supports.{supports_of}
+use Rattle.ct_piece.proofs.SupportLemmas.{supports-remove}
 use Rattle.ct_ledger.proofs.ledger.Ledger.withdraw.Goals as goal
 
 pub invariant_of-self-2 : goal.invariant_of-self-2

@@ -1,6 +1,6 @@
 use Rattle.std.proofs.Common.{sym, ap, ◌∙◌}
 use Rattle.ct_rules.specs.Removal.{marked, without}
-use Rattle.ct_pieces.specs.Supports.{supports_of}
+use Rattle.ct_piece.specs.Supports.{supports_of}
 use Rattle.ct_ledger.proofs.LeftSupports.{supports-along}
 use Rattle.ct_ledger.proofs.ledger.Ledger.withdraw_all.Goals as goal
 

@@ -1,8 +1,8 @@
 use Rattle.std.proofs.Common.{◌≡◌, ◌<◌, ℕ, List, Ok, false, length, sym, ap, subst, ◌∙◌}
 use Rattle.ct_kind.specs.declared.evidence.Evidence.{Evidence}
 use Rattle.ct_files.specs.Document.{DocumentValue}
-use Rattle.ct_pieces.specs.Piece.{PieceValue, has_id}
-use Rattle.ct_pieces.specs.declared.limits.TheConstants.{MAX_PIECES}
+use Rattle.ct_piece.specs.Piece.{PieceValue, has_id}
+use Rattle.ct_piece.specs.declared.limits.TheConstants.{MAX_PIECES}
 use Rattle.ct_pieces.proofs.pieces.Pieces.admit.Goals as goal
 
 -- what a document of the evidence holds that cites these

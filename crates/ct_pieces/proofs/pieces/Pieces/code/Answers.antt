@@ -1,11 +1,11 @@
 use Rattle.std.proofs.Common.{List, Option, length, sym, ap, ◌∙◌, ◌≡◌, ◌<◌, [], Some, IfOk, subst}
 use Rattle.ct_words.specs.Code.{CodeValue}
-use Rattle.ct_pieces.specs.Piece.{PieceValue}
+use Rattle.ct_piece.specs.Piece.{PieceValue}
 use Rattle.ct_pieces.proofs.BuildPlaces.{kept-long}
 use Rattle.std.specs.Prelude.{IsSome}
-use Rattle.ct_pieces.specs.Codes.{code_of_place}
-use Rattle.ct_pieces.specs.Standing.{AreMade}
-use Rattle.ct_pieces.specs.Inside.Kept.{kept_codes, AreKept}
+use Rattle.ct_piece.specs.Codes.{code_of_place}
+use Rattle.ct_piece.specs.Standing.{AreMade}
+use Rattle.ct_piece.specs.Inside.Kept.{kept_codes, AreKept}
 use Rattle.ct_pieces.proofs.pieces.Pieces.code.Goals as goal
 
 pub code_at_place-requires-clause-long : goal.code_at_place-requires-clause-long

@@ -1,6 +1,6 @@
 use Rattle.std.proofs.Common.{◌<◌, List, [], length, sym, subst, ◌∙◌}
-use Rattle.ct_pieces.specs.Piece.{PieceValue}
-use Rattle.ct_pieces.specs.Standing.{AreMade}
+use Rattle.ct_piece.specs.Piece.{PieceValue}
+use Rattle.ct_piece.specs.Standing.{AreMade}
 use Rattle.ct_pieces.proofs.pieces.Pieces.has_code.Goals as goal
 
 pub has_code-requires-clause-made : goal.has_code-requires-clause-made

@@ -1,9 +1,9 @@
 use Rattle.std.proofs.Common.{◌≡◌, List, false, Err, sym, ap, ◌∙◌, subst}
-use Rattle.ct_pieces.specs.Piece.{PieceValue, has_id}
-use Rattle.ct_pieces.specs.Standing.{AreStanding}
-use Rattle.ct_pieces.specs.Withdrawal.{withdrawn_all}
-use Rattle.ct_pieces.specs.declared.fault.WithdrawFault.TheVariants as fault
-use Rattle.ct_pieces.proofs.AlongLemmas.{withdrawn_all-missing}
+use Rattle.ct_piece.specs.Piece.{PieceValue, has_id}
+use Rattle.ct_piece.specs.Standing.{AreStanding}
+use Rattle.ct_piece.specs.Withdrawal.{withdrawn_all}
+use Rattle.ct_piece.specs.declared.fault.WithdrawFault.TheVariants as fault
+use Rattle.ct_piece.proofs.AlongLemmas.{withdrawn_all-missing}
 use Rattle.ct_pieces.proofs.pieces.Pieces.marks_to_leave.Goals as goal
 
 pub returns-then-not-has_id-clause-fault : goal.returns-then-not-has_id-clause-fault

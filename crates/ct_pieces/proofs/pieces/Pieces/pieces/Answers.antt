@@ -1,7 +1,7 @@
 use Rattle.std.proofs.Common.{List, subst}
-use Rattle.ct_pieces.specs.Piece.{PieceValue}
-use Rattle.ct_pieces.specs.Standing.{AreStanding}
-use Rattle.ct_pieces.proofs.StandingLemmas.{AreStanding-true}
+use Rattle.ct_piece.specs.Piece.{PieceValue}
+use Rattle.ct_piece.specs.Standing.{AreStanding}
+use Rattle.ct_piece.proofs.StandingLemmas.{AreStanding-true}
 use Rattle.ct_pieces.proofs.pieces.Pieces.pieces.Goals as goal
 
 pub returns-clause-sizes : goal.returns-clause-sizes

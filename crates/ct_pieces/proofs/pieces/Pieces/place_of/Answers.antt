@@ -1,6 +1,6 @@
 use Rattle.std.proofs.Common.{sym, ap, ◌∙◌}
-use Rattle.ct_pieces.specs.Piece.{place_of}
-use Rattle.ct_pieces.proofs.SupportLemmas.{place_of-few}
+use Rattle.ct_piece.specs.Piece.{place_of}
+use Rattle.ct_piece.proofs.SupportLemmas.{place_of-few}
 use Rattle.ct_pieces.proofs.pieces.Pieces.place_of.Goals as goal
 
 pub returns-clause-few : goal.returns-clause-few

@@ -1,9 +1,9 @@
 use Rattle.std.proofs.Common.{◌≡◌, List, Err, option_map, sym, ap, ◌∙◌, subst}
-use Rattle.ct_pieces.specs.Piece.{PieceValue, first_user}
-use Rattle.ct_pieces.specs.Withdrawal.{withdrawn}
-use Rattle.ct_pieces.specs.declared.fault.WithdrawFault.TheVariants as fault
-use Rattle.ct_pieces.specs.Piece.{place_of}
-use Rattle.ct_pieces.proofs.SupportLemmas.{withdrawn-missing, withdrawn-used}
+use Rattle.ct_piece.specs.Piece.{PieceValue, first_user}
+use Rattle.ct_piece.specs.Withdrawal.{withdrawn}
+use Rattle.ct_piece.specs.declared.fault.WithdrawFault.TheVariants as fault
+use Rattle.ct_piece.specs.Piece.{place_of}
+use Rattle.ct_piece.proofs.SupportLemmas.{withdrawn-missing, withdrawn-used}
 use Rattle.ct_pieces.proofs.pieces.Pieces.place_to_leave.Goals as goal
 
 pub returns-in_default-clause-fault : goal.returns-in_default-clause-fault

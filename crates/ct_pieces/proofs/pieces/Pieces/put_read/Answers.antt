@@ -3,12 +3,12 @@ use Rattle.std.proofs.lemmas.Result.{err_from_is_err_and}
 use Rattle.ct_words.specs.Code.{CodeValue}
 use Rattle.ct_files.specs.Document.{value_of}
 use Rattle.ct_files.proofs.Documents.{document_read_of-right}
-use Rattle.ct_pieces.specs.Piece.{PieceValue, has_id}
-use Rattle.ct_pieces.specs.Codes.{codes_of}
-use Rattle.ct_pieces.specs.Submission.{piece_of, submitted}
-use Rattle.ct_pieces.specs.Supports.{supports_of}
-use Rattle.ct_pieces.specs.Inside.Kept.{kept_codes, AreKept}
-use Rattle.ct_pieces.specs.declared.limits.TheConstants.{MAX_PIECES, MAX_STORED}
+use Rattle.ct_piece.specs.Piece.{PieceValue, has_id}
+use Rattle.ct_piece.specs.Codes.{codes_of}
+use Rattle.ct_piece.specs.Submission.{piece_of, submitted}
+use Rattle.ct_piece.specs.Supports.{supports_of}
+use Rattle.ct_piece.specs.Inside.Kept.{kept_codes, AreKept}
+use Rattle.ct_piece.specs.declared.limits.TheConstants.{MAX_PIECES, MAX_STORED}
 use Rattle.ct_pieces.proofs.Putting.{refused-submission, is-put}
 use Rattle.ct_pieces.proofs.pieces.Pieces.put_read.Goals as goal
 

@@ -1,6 +1,6 @@
 use Rattle.std.proofs.Common.{◌≡◌, ◌≢◌, ℕ, List, IfOk, IfErr, Err, subst}
 use Rattle.ct_kind.specs.declared.fault.SubmitFault.TheVariants as fault
-use Rattle.ct_pieces.specs.Submission.{submitted, AddsPiece}
+use Rattle.ct_piece.specs.Submission.{submitted, AddsPiece}
 use Rattle.ct_pieces.proofs.pieces.Pieces.submit.Goals as goal
 
 pub returns-clause-accepted : goal.returns-clause-accepted

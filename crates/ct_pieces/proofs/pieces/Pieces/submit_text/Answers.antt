@@ -1,10 +1,10 @@
 use Rattle.std.proofs.Common.{◌≡◌, ◌<◌, List, false, Err, length, subst, ◌∙◌}
 use Rattle.std.proofs.lemmas.Result.{err_from_is_err_and}
-use Rattle.ct_pieces.specs.Piece.{PieceValue, has_id}
-use Rattle.ct_pieces.specs.Codes.{codes_of}
-use Rattle.ct_pieces.specs.Submission.{submitted}
-use Rattle.ct_pieces.specs.declared.limits.TheConstants.{MAX_PIECES}
-use Rattle.ct_pieces.proofs.StandingLemmas.{submitted-beside}
+use Rattle.ct_piece.specs.Piece.{PieceValue, has_id}
+use Rattle.ct_piece.specs.Codes.{codes_of}
+use Rattle.ct_piece.specs.Submission.{submitted}
+use Rattle.ct_piece.specs.declared.limits.TheConstants.{MAX_PIECES}
+use Rattle.ct_piece.proofs.StandingLemmas.{submitted-beside}
 use Rattle.ct_pieces.proofs.pieces.Pieces.submit_text.Goals as goal
 
 pub returns-in_err-stated-clause-fault : goal.returns-in_err-stated-clause-fault

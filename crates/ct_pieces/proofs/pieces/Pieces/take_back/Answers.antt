@@ -1,11 +1,11 @@
 use Rattle.std.proofs.Common.{rules, ◌≡◌, ℕ, ◌<◌, ◌+◌, ◌-◌, length, List, Option, sym, ap, ◌∙◌, subst, arith}
 use Rattle.std.specs.Prelude.{remove}
 use Rattle.ct_words.specs.Code.{CodeValue}
-use Rattle.ct_pieces.specs.Piece.{PieceValue, stored_words}
-use Rattle.ct_pieces.specs.Inside.Kept.{kept_codes, AreKept}
+use Rattle.ct_piece.specs.Piece.{PieceValue, stored_words}
+use Rattle.ct_piece.specs.Inside.Kept.{kept_codes, AreKept}
 use Rattle.ct_pieces.proofs.BuildPlaces.{kept-long}
-use Rattle.ct_pieces.proofs.KeptLemmas.{kept-without}
-use Rattle.ct_pieces.proofs.SupportLemmas.{taken_back}
+use Rattle.ct_piece.proofs.KeptLemmas.{kept-without}
+use Rattle.ct_piece.proofs.SupportLemmas.{taken_back}
 use Rattle.ct_pieces.proofs.pieces.Pieces.take_back.Goals as goal
 
 pub take_at-requires-clause-place : goal.take_at-requires-clause-place

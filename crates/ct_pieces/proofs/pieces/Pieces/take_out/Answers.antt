@@ -1,13 +1,13 @@
 use Rattle.std.proofs.Common.{◌≡◌, ◌+◌, ◌-◌, List, Option, Some, None, Ok, option_map, sym, ap, ◌∙◌, subst, arith}
 use Rattle.std.specs.Prelude.{remove}
 use Rattle.ct_words.specs.Code.{CodeValue}
-use Rattle.ct_pieces.specs.Piece.{PieceValue, first_user, stored_words}
-use Rattle.ct_pieces.specs.Withdrawal.{withdrawn}
-use Rattle.ct_pieces.specs.Piece.{place_of}
-use Rattle.ct_pieces.specs.Inside.Kept.{kept_codes, AreKept}
+use Rattle.ct_piece.specs.Piece.{PieceValue, first_user, stored_words}
+use Rattle.ct_piece.specs.Withdrawal.{withdrawn}
+use Rattle.ct_piece.specs.Piece.{place_of}
+use Rattle.ct_piece.specs.Inside.Kept.{kept_codes, AreKept}
 use Rattle.ct_pieces.proofs.BuildPlaces.{kept-long}
-use Rattle.ct_pieces.proofs.KeptLemmas.{kept-without}
-use Rattle.ct_pieces.proofs.SupportLemmas.{place_of-some, withdrawn-left, left_standing}
+use Rattle.ct_piece.proofs.KeptLemmas.{kept-without}
+use Rattle.ct_piece.proofs.SupportLemmas.{place_of-some, withdrawn-left, left_standing}
 use Rattle.ct_pieces.proofs.pieces.Pieces.take_out.Goals as goal
 
 pub take_at-requires-clause-place : goal.take_at-requires-clause-place

@@ -1,14 +1,14 @@
 use Rattle.std.proofs.Common.{ℕ, List, Bool, Option, Ok, ◌≡◌, ◌≤◌, length, sym, ap, ◌∙◌, subst, arith, rules}
 use Rattle.std.proofs.lemmas.List.{length-map}
 use Rattle.ct_words.specs.Code.{CodeValue}
-use Rattle.ct_pieces.specs.Piece.{PieceValue, stored_words}
-use Rattle.ct_pieces.specs.Standing.{AreStanding}
-use Rattle.ct_pieces.specs.Withdrawal.{taken_along, is_among, without_all, marks_along}
-use Rattle.ct_pieces.specs.Inside.Kept.{kept_codes, AreKept}
-use Rattle.ct_pieces.specs.Inside.Unmarked.{unmarked}
-use Rattle.ct_pieces.specs.declared.limits.TheConstants.{MAX_STORED}
-use Rattle.ct_pieces.proofs.KeptLemmas.{length-kept_codes, kept-length, kept-unmarked}
-use Rattle.ct_pieces.proofs.AlongLemmas.{AreStanding-along, kept-along, unmarked-along, length-unmarked, withdrawn_all-left}
+use Rattle.ct_piece.specs.Piece.{PieceValue, stored_words}
+use Rattle.ct_piece.specs.Standing.{AreStanding}
+use Rattle.ct_piece.specs.Withdrawal.{taken_along, is_among, without_all, marks_along}
+use Rattle.ct_piece.specs.Inside.Kept.{kept_codes, AreKept}
+use Rattle.ct_piece.specs.Inside.Unmarked.{unmarked}
+use Rattle.ct_piece.specs.declared.limits.TheConstants.{MAX_STORED}
+use Rattle.ct_piece.proofs.KeptLemmas.{length-kept_codes, kept-length, kept-unmarked}
+use Rattle.ct_piece.proofs.AlongLemmas.{AreStanding-along, kept-along, unmarked-along, length-unmarked, withdrawn_all-left}
 use Rattle.ct_pieces.proofs.pieces.Pieces.take_out_all.Goals as goal
 
 -- the pieces that are left, where the marks are those of pieces that the invariant speaks of by themselves

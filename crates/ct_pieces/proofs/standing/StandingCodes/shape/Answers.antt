@@ -1,9 +1,9 @@
 use Rattle.std.proofs.Common.{List, option_map, sym, ap, ◌∙◌}
 use Rattle.ct_build.specs.Build.{shape_of}
 use Rattle.ct_kind.specs.Named.{code_named}
-use Rattle.ct_pieces.specs.Codes.{codes_of}
-use Rattle.ct_pieces.specs.Piece.{PieceValue}
-use Rattle.ct_pieces.proofs.CodeLemmas.{position-none}
+use Rattle.ct_piece.specs.Codes.{codes_of}
+use Rattle.ct_piece.specs.Piece.{PieceValue}
+use Rattle.ct_piece.proofs.CodeLemmas.{position-none}
 use Rattle.ct_pieces.proofs.PartLemmas.{named-first}
 use Rattle.ct_pieces.proofs.standing.StandingCodes.shape.Goals as goal
 

@@ -3,7 +3,7 @@ use Rattle.std.proofs.lemmas.Result.{err_from_is_err_and}
 use Rattle.std.specs.List.{flat_map}
 use Rattle.ct_io.specs.Buffered.{Stops}
 use Rattle.ct_io.proofs.BufferedLemmas.{stops_sooner, is_put_as, is_put_then}
-use Rattle.ct_pieces.specs.Dump.{piece_dump}
+use Rattle.ct_piece.specs.Dump.{piece_dump}
 use Rattle.ct_replies.proofs.Outputs.{comment_of, dump_is}
 use Rattle.ct_replies.proofs.output.dump.put_dump.Goals as goal
 

@@ -2,7 +2,7 @@ use Rattle.std.proofs.Common.{◌≡◌, List, ℕ, Bor, ap, ◌∙◌}
 use Rattle.std.specs.List.{flat_map}
 use Rattle.ct_io.proofs.BufferedLemmas.{is_put_as}
 use Rattle.ct_commands.specs.Submission.{submission_text}
-use Rattle.ct_pieces.specs.Dump.{piece_dump}
+use Rattle.ct_piece.specs.Dump.{piece_dump}
 use Rattle.ct_replies.proofs.output.dump.put_submission.Goals as goal
 
 pub returns : goal.returns

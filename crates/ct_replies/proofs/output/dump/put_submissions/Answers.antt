@@ -3,8 +3,8 @@ use Rattle.std.specs.List.{flat_map}
 use Rattle.std.proofs.lemmas.Result.{err_from_is_err_and}
 use Rattle.ct_io.specs.Buffered.{Puts}
 use Rattle.ct_io.proofs.BufferedLemmas.{puts_none, puts_item, stops_at_item}
-use Rattle.ct_pieces.specs.Piece.{PieceValue}
-use Rattle.ct_pieces.specs.Dump.{piece_dump}
+use Rattle.ct_piece.specs.Piece.{PieceValue}
+use Rattle.ct_piece.specs.Dump.{piece_dump}
 use Rattle.ct_replies.proofs.output.dump.put_submissions.Goals as goal
 
 pub loop-piece-init : goal.loop-piece-init

@@ -1,7 +1,7 @@
 use Rattle.std.proofs.Common.{take}
 use Rattle.std.specs.List.{flat_map}
 use Rattle.ct_io.specs.Buffered.{Puts, buffered}
-use Rattle.ct_pieces.specs.Dump.{piece_dump}
+use Rattle.ct_piece.specs.Dump.{piece_dump}
 use Rattle.ct_replies.proofs.output.dump.put_submissions.Given as goal
 
 abbrev pub invariant-loop-piece : goal.invariant-loop-piece

@@ -1,5 +1,5 @@
 use Rattle.std.proofs.Common.{sym, ap, ◌∙◌}
-use Rattle.ct_pieces.specs.Supports.{supports_of}
+use Rattle.ct_piece.specs.Supports.{supports_of}
 use Rattle.ct_sample.specs.Run.{RunValue}
 use Rattle.ct_sample.proofs.WithoutDocuments.{supports-without_documents}
 use Rattle.ct_sample.proofs.run.Run.table.Goals as goal

@@ -1,5 +1,5 @@
 use Rattle.std.proofs.Common.{Bool, cond, ap, ◌∙◌, ℕ}
-use Rattle.ct_pieces.specs.Withdrawal.{withdrawn}
+use Rattle.ct_piece.specs.Withdrawal.{withdrawn}
 use Rattle.ct_sample.specs.Run.{RunValue, after_withdrawal}
 use Rattle.ct_sample.proofs.Applying.{bit_is, withdrawn_one}
 use Rattle.ct_sample.proofs.run.Run.withdraw.Goals as goal

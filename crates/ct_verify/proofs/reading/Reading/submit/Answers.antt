@@ -1,7 +1,7 @@
 use Rattle.std.proofs.Common.{sym, ap, ◌∙◌, List}
-use Rattle.ct_pieces.specs.Piece.{PieceValue}
-use Rattle.ct_pieces.specs.Submission.{submitted}
-use Rattle.ct_pieces.specs.Supports.{supports_of}
+use Rattle.ct_piece.specs.Piece.{PieceValue}
+use Rattle.ct_piece.specs.Submission.{submitted}
+use Rattle.ct_piece.specs.Supports.{supports_of}
 use Rattle.ct_verify.specs.Read.{ReadingValue}
 use Rattle.ct_verify.specs.Reading.{with_piece, after_block}
 use Rattle.ct_verify.specs.declared.part.Part.TheVariants as part

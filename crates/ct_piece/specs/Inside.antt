@@ -1,0 +1,3 @@
+-- Words that the contracts of inner functions alone cite.
+pub mod Kept
+pub mod Unmarked

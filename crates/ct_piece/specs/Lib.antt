@@ -1,0 +1,9 @@
+pub mod Piece
+pub mod Codes
+pub mod Submission
+pub mod Withdrawal
+pub mod Standing
+pub mod Text
+pub mod Dump
+pub mod Supports
+pub mod Inside
