@@ -15,7 +15,7 @@ use Rattle.ct_fields.specs.declared.field.FieldName.{FieldName}
 use Rattle.ct_fields.specs.declared.field.FieldName.TheVariants.{N, D, W}
 use Rattle.ct_fields.specs.declared.fault.DocumentFault.{DocumentFault}
 use Rattle.ct_fields.specs.declared.fault.DocumentFault.TheVariants.{Field}
-use Rattle.ct_fields.proofs.StepLemmas.{bind-ok, bind-err, bind-at, bind-at_err, check-ok, check-err, ok_or-err, only_fault}
+use Rattle.ct_fields.proofs.StepLemmas.{bind-ok, bind-err, bind-at, bind-at_err, check-ok, check-err, ok_or-err, no_fault, only_fault}
 use Rattle.ct_fields.proofs.FieldLemmas.{number_field-ok, number_field-from}
 
 -- the fault of a number is its field's
@@ -103,25 +103,37 @@ entry_of-from document e states =
     ∙ bind-at (distance_beside (has_field W document) document) _ e.d (distance_beside-from document e.d states.with_distance)
     ∙ bind-at (weight_field e.n document) _ e.w (weight_field-from e.n document e.w states.with_weight)
 
+-- what is read of the fields is the entry
+pub entry_of-fields : (document : Data) (n d : ℕ) (w : Option ℕ) → number_field N 1 MAX_N document ≡ Ok n
+    → distance_beside (has_field W document) document ≡ Ok d → weight_field n document ≡ Ok w → entry_of document ≡ Ok (record { n = n; d = d; w = w })
+unfolding entry_of
+entry_of-fields document n d w n-is d-is w-is =
+    bind-at (number_field N 1 MAX_N document) _ n n-is ∙ bind-at (distance_beside (has_field W document) document) _ d d-is
+    ∙ bind-at (weight_field n document) _ w w-is
+
 -- the fault of an entry is its first wrong field
 pub entry_of-err : (document : Data) (fault : DocumentFault) → entry_of document ≡ Err fault → (name : FieldName) × (Field name ≡ fault) × IsEntryFault document name
 unfolding entry_of
 entry_of-err document fault read =
     elim (bind-err (number_field N 1 MAX_N document) _ fault read) [
-      | inl none ↦ (N, number_field-err N 1 MAX_N document fault none, λ n has. let other = number_field-from N 1 MAX_N document n has in cc)
+      | inl none ↦ (N, number_field-err N 1 MAX_N document fault none, λ n has. no_fault _ n fault (number_field-from N 1 MAX_N document n has) none)
       | inr (n, n-is, next) ↦
           let at_n = number_field-ok N 1 MAX_N document n n-is in
           elim (bind-err (distance_beside (has_field W document) document) _ fault next) [
             | inl none ↦ (
               D,
               distance_beside-err (has_field W document) document fault none,
-              ((n, at_n), λ d has. let other = distance_beside-from document d has in cc),
+              ((n, at_n), λ d has. no_fault _ d fault (distance_beside-from document d has) none),
             )
             | inr (d, d-is, after) ↦
                 let at_d = distance_beside-ok document d d-is in
                 elim (bind-err (weight_field n document) _ fault after) [
-                  | inl none ↦ (W, weight_field-err n document fault none, (n, at_n, (d, at_d), λ w has. let other = weight_field-from n document w has in cc))
-                  | inr (w, w-is, last) ↦ absurd cc
+                  | inl none ↦ (
+                    W,
+                    weight_field-err n document fault none,
+                    (n, at_n, (d, at_d), λ w has. no_fault _ w fault (weight_field-from n document w has) none),
+                  )
+                  | inr (w, w-is, last) ↦ absurd (no_fault _ _ fault refl last)
                 ]
           ]
     ]
@@ -167,16 +179,16 @@ pub plain_entry_of-err : (document : Data) (fault : DocumentFault) → plain_ent
 unfolding plain_entry_of
 plain_entry_of-err document fault read =
     elim (bind-err (number_field N 1 MAX_N document) _ fault read) [
-      | inl none ↦ (N, number_field-err N 1 MAX_N document fault none, λ n has. let other = number_field-from N 1 MAX_N document n has in cc)
+      | inl none ↦ (N, number_field-err N 1 MAX_N document fault none, λ n has. no_fault _ n fault (number_field-from N 1 MAX_N document n has) none)
       | inr (n, n-is, next) ↦
           let at_n = number_field-ok N 1 MAX_N document n n-is in
           elim (bind-err (number_field D 3 MAX_N document) _ fault next) [
             | inl none ↦ (
               D,
               number_field-err D 3 MAX_N document fault none,
-              ((n, at_n), λ d has. let other = number_field-from D 3 MAX_N document d has in cc),
+              ((n, at_n), λ d has. no_fault _ d fault (number_field-from D 3 MAX_N document d has) none),
             )
-            | inr (d, d-is, last) ↦ absurd cc
+            | inr (d, d-is, last) ↦ absurd (no_fault _ _ fault refl last)
           ]
     ]
 

@@ -74,6 +74,10 @@ module _ {A B : Type 0} (f : Data → Option A) (g : Data → Option B) (d : Dat
   pair_in-no_second x two-is x-is none =
       ap (λ o. option_and_then (λ z. Some (x, z)) o) none ∙ ap and_then_second x-is ∙ pair_in-two two-is
 
+-- and what is no list of two values is no pair
+pub pair_in-other : {A B : Type 0} (f : Data → Option A) (g : Data → Option B) (d : Data) → None ≡ two_in d → None ≡ pair_in f g d
+pair_in-other f g d none = ap (λ o. option_and_then (λ t. option_and_then (λ x. option_and_then (λ y. Some (x, y)) (g t.1)) (f t.0)) o) none
+
 -- the form reads just what is written so, of those of which P holds
 pub record ReadsBack {A : Type 0} (form : Data → Option A) (written : A → Data) (P : A → Type 0) : Type 0 where
   pub some : (d : Data) (x : A) → form d ≡ Some x → (d ≡ written x) × P x

@@ -1,5 +1,6 @@
 mod Documents
 pub mod StepLemmas
+pub mod OneAnswer
 pub mod FieldLemmas
 pub mod EntryAnswers
 pub mod WordsLemmas
@@ -16,5 +17,6 @@ pub mod CitedTables
 pub mod PushedValues
 pub mod Reserved
 pub mod ReadLists
+mod ReadSteps
 mod TextValues
 pub mod CiteRooms

@@ -1,7 +1,8 @@
 -- Lists that are read item by item: what was read with what is read of the rest is what is read of all.
-use Rattle.std.proofs.Common.{◌≡◌, ℕ, suc, ◌+◌, ◌<◌, ◌≤◌, List, [], ◌∷◌, ◌++◌, length, drop, get_or, option_map, Option, Some, None, Result, Ok, Err, ok_or, append_assoc, append-nil, refl, sym, ap, ◌∙◌, arith}
+use Rattle.std.proofs.Common.{◌≡◌, ℕ, suc, ◌+◌, ◌<◌, ◌≤◌, Bool, true, false, List, [], ◌∷◌, ◌++◌, length, drop, get_or, option_map, Option, Some, None, is_some, Result, Ok, Err, ok_or, append_assoc, append-nil, refl, sym, ap, ◌∙◌, arith}
 use Rattle.std.specs.Borrow.{Bor}
 use Rattle.std.specs.Option.{option_and_then}
+use Rattle.std.proofs.lemmas.Bool.{false≢true}
 use Rattle.std.proofs.lemmas.Option.{option_and_then_some}
 use Rattle.std.proofs.lemmas.List.{drop_all, drop_more}
 use Rattle.toml.specs.Data.{Data, Items, no_items, item, as_str}
@@ -68,6 +69,39 @@ module _ {A : Type 0} (form : Data → Option A) (vs : List Value) (i : ℕ) (xs
   pub all_of-end : length vs ≤ i → Some xs ≡ all
   all_of-end past =
       ap (λ l. Some l) (sym (append-nil xs)) ∙ ap (λ l. read_on xs (all_of form (items_view l))) (sym (drop_all i vs past)) ∙ before
+
+-- whether the first value has the form and those after it, where the first one has it, and where it has it not
+has-more : {A : Type 0} (o : Option A) (rest : Option (List A)) → is_some o ≡ true
+    → is_some rest ≡ is_some (option_and_then (λ y. option_and_then (λ ys. Some (y ∷ ys)) rest) o)
+has-more None rest has = absurd (false≢true has)
+has-more (Some x) None has = refl
+has-more (Some x) (Some xs) has = refl
+
+has-none : {A : Type 0} (o : Option A) (rest : Option (List A)) → is_some o ≡ false
+    → false ≡ is_some (option_and_then (λ y. option_and_then (λ ys. Some (y ∷ ys)) rest) o)
+has-none None rest none = refl
+has-none (Some x) rest none = absurd (false≢true (sym none))
+
+module _ {A : Type 0} (form : Data → Option A) (vs : List Value) (i : ℕ) (all : Bool)
+    (before : is_some (all_of form (items_view (drop i vs))) ≡ all) where
+  -- whether all values have the form, where the next value has it
+  pub all_have-more : (v : Value) → i < length vs → v ≡ get_or vs i v → is_some (form (view v)) ≡ true
+      → is_some (all_of form (items_view (drop (i + 1) vs))) ≡ all
+  all_have-more v below is has =
+      has-more (form (view v)) (all_of form (items_view (drop (i + 1) vs))) has
+      ∙ ap (λ ds. is_some (all_of form ds)) (sym (next_item vs i v below is))
+      ∙ before
+
+  -- where it has it not
+  pub all_have-none : (v : Value) → i < length vs → v ≡ get_or vs i v → is_some (form (view v)) ≡ false → false ≡ all
+  all_have-none v below is none =
+      has-none (form (view v)) (all_of form (items_view (drop (i + 1) vs))) none
+      ∙ ap (λ ds. is_some (all_of form ds)) (sym (next_item vs i v below is))
+      ∙ before
+
+  -- and where no value is left
+  pub all_have-end : length vs ≤ i → true ≡ all
+  all_have-end past = ap (λ l. is_some (all_of form (items_view l))) (sym (drop_all i vs past)) ∙ before
 
 -- what is read is as much as there are values
 pub all_of-length : {A : Type 0} (form : Data → Option A) (vs : List Value) (xs : List A) → all_of form (items_view vs) ≡ Some xs → length xs ≡ length vs

@@ -34,6 +34,11 @@ pub ok_or-err : {A : Type 0} (found : Option A) (fault other : DocumentFault) �
 ok_or-err None fault other e = (refl, cc)
 ok_or-err (Some y) fault other e = absurd cc
 
+-- a step does not give something and a fault too
+pub no_fault : {A : Type 0} (step : Result A DocumentFault) (x : A) (fault : DocumentFault) → step ≡ Ok x → step ≡ Err fault → ⊥
+no_fault (Ok y) x fault ok err = absurd cc
+no_fault (Err other) x fault ok err = absurd cc
+
 -- a step that gives something hands it on
 pub bind-at : {A B : Type 0} (step : Result A DocumentFault) (next : A → Result B DocumentFault) (x : A) → step ≡ Ok x → (step >>= next) ≡ next x
 bind-at step next x e = rw e refl

@@ -9,7 +9,7 @@ use Rattle.ct_fields.specs.Fields.{words_from}
 use Rattle.ct_fields.specs.Tables.{IsWordText, IsFirstWrong}
 use Rattle.ct_fields.specs.declared.fault.DocumentFault.{DocumentFault}
 use Rattle.ct_fields.specs.declared.fault.DocumentFault.TheVariants.{Digits}
-use Rattle.ct_fields.proofs.StepLemmas.{bind-ok, bind-err, ok_or-ok, ok_or-err}
+use Rattle.ct_fields.proofs.StepLemmas.{bind-ok, bind-err, ok_or-ok, ok_or-err, no_fault}
 
 -- the texts that are read are those of words of length n
 pub words_from-ok : (n place : ℕ) (texts : List (List ℕ)) (words : List ℕ) → words_from n place texts ≡ Ok words → (texts ≡ map (word_text n) words) × AllByRecursion (λ x. x < 2 ^ n) words
@@ -62,7 +62,7 @@ words_from-err n place (text ∷ texts) fault e =
             | inl rest ↦
                 let (i, same, first) = words_from-err n (suc place) texts fault rest in
                 (suc i, ap Digits (omega arith) ∙ same, later_wrong n x text texts i (ok_or-ok (word_of n text) (Digits place) x x-is) first)
-            | inr (words, words-are, read) ↦ absurd cc
+            | inr (words, words-are, read) ↦ absurd (no_fault _ _ fault refl read)
           ]
     ]
 

@@ -1,5 +1,5 @@
 -- Texts that are put one after another for a sink, and what a failed write leaves of them.
-use Rattle.std.proofs.Common.{◌≡◌, ◌≢◌, ℕ, zero, suc, ◌+◌, ◌<◌, ◌≤◌, List, [], ◌∷◌, ◌++◌, length, take, drop, get_or, Option, Some, None, Result, Ok, Err, refl, sym, ap, ◌∙◌, subst, append_assoc, append-nil, arith}
+use Rattle.std.proofs.Common.{◌≡◌, ◌≢◌, ℕ, zero, suc, ◌+◌, ◌<◌, ◌≤◌, List, [], ◌∷◌, ◌++◌, length, take, take_all, drop, get_or, Option, Some, None, Result, Ok, Err, refl, sym, ap, ◌∙◌, subst, append_assoc, append-nil, arith}
 use Rattle.std.specs.Prelude.{OnOk, OnErr}
 use Rattle.std.specs.List.{flat_map}
 use Rattle.std.specs.Io.KnownBytes.{Appends, append_known}
@@ -125,6 +125,11 @@ puts_part {X} f xs i d a b c within h k = puts_item f xs i (get_or xs i d) a b c
 pub stops_at_part : {X : Type 0} (f : X → List ℕ) (xs : List X) (i : ℕ) (d : X) (a b c : Buffered) → i < length xs
     → Puts a b (flat_map f (take i xs)) → Stops b c (f (get_or xs i d)) → Stops a c (flat_map f xs)
 stops_at_part {X} f xs i d a b c within h k = stops_at_item f xs i (get_or xs i d) a b c within (same_item xs i d (get_or xs i d) within) h k
+
+-- the texts of all items
+pub puts_all : {X : Type 0} (f : X → List ℕ) (xs : List X) (i : ℕ) (a b : Buffered) → length xs ≤ i → Puts a b (flat_map f (take i xs))
+    → Puts a b (flat_map f xs)
+puts_all {X} f xs i a b past h = subst (λ (ys : List X). Puts a b (flat_map f ys)) (take_all i xs past) h
 
 -- ---- the ways of one text
 

@@ -1,5 +1,6 @@
 -- Parts of a list that are copied or written in turn.
-use Rattle.std.proofs.Common.{◌≡◌, ℕ, ◌+◌, ◌-◌, List, ◌++◌, length, take, drop, sym, ap, ◌∙◌, arith}
+use Rattle.std.proofs.Common.{◌≡◌, ℕ, ◌+◌, ◌-◌, List, ◌++◌, Result, Ok, is_ok, if◌then◌else◌, length, take, drop, sym, subst, ap, ◌∙◌, arith}
+use Rattle.std.specs.declared.alloc.AllocError.{AllocError}
 use Rattle.std.proofs.Math.Seq.{take-add}
 use Rattle.std.proofs.lemmas.List.{take_at, take_all, take-append-drop, drop-drop, length-drop}
 
@@ -15,3 +16,8 @@ pub take-written : (bytes : List ℕ) (at n : ℕ) → take (at + n) bytes ≡ t
 take-written bytes at n =
     let whole : take (length bytes - at) (drop at bytes) ≡ drop at bytes = take_all (length bytes - at) (drop at bytes) (omega (arith, length-drop at bytes)) in
     take-add at n bytes ∙ ap (λ l. take at bytes ++ take n l) (sym whole)
+
+-- where a text could be put after the bytes of a vector, it stands there
+pub appended : (old new text : List ℕ) (r : Result (Unit {0}) AllocError) (done : Unit {0}) → r ≡ Ok done → new ≡ (if is_ok r then old ++ text else old)
+    → new ≡ old ++ text
+appended old new text r done is items = subst (λ (s : Result (Unit {0}) AllocError). new ≡ (if is_ok s then old ++ text else old)) is items

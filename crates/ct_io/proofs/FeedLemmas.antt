@@ -1,15 +1,15 @@
 -- Where the first line feed of some bytes is.
-use Rattle.std.proofs.Common.{◌≡◌, ◌≢◌, ℕ, ◌+◌, ◌<◌, ◌≤◌, Bool, true, false, cond, not, List, [], ◌∷◌, ◌++◌, length-append, Some, None, inl, inr, refl, sym, subst, ap, ◌∙◌, length, take, drop, get_or, arith, length-drop, length-take, ltb}
+use Rattle.std.proofs.Common.{◌≡◌, ◌≢◌, ℕ, ◌+◌, ◌-◌, ◌<◌, ◌≤◌, Bool, true, false, cond, not, List, [], ◌∷◌, ◌++◌, length-append, Some, None, inl, inr, refl, sym, subst, ap, ◌∙◌, length, take, take_all, drop, get_or, arith, length-drop, length-take, ltb}
 use Rattle.std.specs.List.{position, position_or_len, slice_get, Contains}
 use Rattle.std.proofs.Math.Seq.{take-add}
 use Rattle.std.proofs.lemmas.Bool.{eqb-true, eqb-false, ltb-false}
-use Rattle.std.proofs.lemmas.List.{get_or-take, get_or-drop, take-append-drop, drop-drop, drop_more}
+use Rattle.std.proofs.lemmas.List.{get_or-take, get_or-drop, take-append-drop, drop-drop, drop_all, drop_more}
 use Rattle.std.proofs.lemmas.List.Elements.{All-append, All-from_get_or, All-head, All-tail, Contains-get_or}
 use Rattle.std.proofs.lemmas.List.Quantifiers.{position-Some}
 use Rattle.std.proofs.lemmas.List.Sums.{prefix_len_passes}
 use Rattle.std.proofs.lemmas.Option.{slice_get-get_or, get_or_from_slice_get, slice_get_cases}
 use Rattle.ct_text.specs.declared.document_lines.TheConstants.{LINE_FEED}
-use Rattle.ct_io.specs.Lines.{IsLine}
+use Rattle.ct_io.specs.Lines.{IsLine, IsNextLine}
 use Rattle.ct_io.specs.declared.TheConstants.{MAX_READ}
 use Rattle.ct_io.specs.Reader.{IsLineThenRead}
 use Rattle.ct_io.proofs.LinesLemmas.{is_feed}
@@ -109,3 +109,27 @@ last_read-after_feed line after h =
 
 pub last_read-of_line : (line after : List ℕ) → IsLine line → length after < MAX_READ → IsLineThenRead (line ++ LINE_FEED ∷ after)
 last_read-of_line line after h few = (line, LINE_FEED ∷ after, refl, h, omega arith)
+
+-- the next line of bytes with a line feed, and what follows it
+pub next_line-found : (bytes : List ℕ) (place : ℕ) → position is_feed bytes ≡ Some place
+    → IsNextLine bytes (take place bytes) (take (length bytes - (place + 1)) (drop (place + 1) bytes))
+next_line-found bytes place e =
+    let found = EndsAt-position bytes place e in
+    let rest = take_all (length bytes - (place + 1)) (drop (place + 1) bytes) (omega (arith, length-drop (place + 1) bytes)) in
+    let past : 0 + place + 1 ≡ place + 1 = omega arith in
+    let front : bytes ≡ take place bytes ++ LINE_FEED ∷ drop (0 + place + 1) bytes = drop-around bytes 0 place LINE_FEED found.feed in
+    (found.line, inl (front ∙ ap (λ (l : List ℕ). take place bytes ++ LINE_FEED ∷ l) (ap (λ (k : ℕ). drop k bytes) past ∙ sym rest)))
+
+-- all bytes are the next line where there is no line feed
+pub next_line-whole : (bytes : List ℕ) → position is_feed bytes ≡ None → 0 < length bytes
+    → IsNextLine bytes bytes (take (length bytes - length bytes) (drop (length bytes) bytes))
+next_line-whole bytes e some =
+    let rest = take_all (length bytes - length bytes) (drop (length bytes) bytes) (omega (arith, length-drop (length bytes) bytes)) in
+    (IsLine-position bytes e, inr (refl, some_bytes bytes some, rest ∙ drop_all (length bytes) bytes (omega arith)))
+  where
+    some_bytes : (bytes : List ℕ) → 0 < length bytes → bytes ≢ []
+    some_bytes bytes some none = omega (arith, some, ap length none)
+
+-- what follows at least one byte is less
+pub less-follows : (bytes : List ℕ) (n k : ℕ) → 0 < length bytes → 0 < k → length (take n (drop k bytes)) < length bytes
+less-follows bytes n k some past = omega (arith, length-take n (drop k bytes), length-drop k bytes, some, past)

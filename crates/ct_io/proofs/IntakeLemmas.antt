@@ -282,3 +282,7 @@ NeedsNoRead-found held ended None going feed none = (
   λ found. cc,
   λ ready. absurd (elim ready [ inl has ↦ All-contains IsNoFeed held LINE_FEED none has refl | inr was ↦ cc ]),
 )
+
+-- no read is needed where the end was seen
+pub NeedsNoRead-ended : (held : List ℕ) (ended : Bool) → ended ≡ true → IsTrue ended ↔ NeedsNoRead held ended
+NeedsNoRead-ended held ended was = (λ _. inr was, λ _. was)

@@ -262,3 +262,10 @@ pub GivesNext-on : {S : Type 0} (left : S → Option (List ℕ)) (count : S → 
     → Gives left count i j before after answer → GivesNext left count r (reader j g) before after answer
 GivesNext-on {S} left count i j f g r before after answer seen healthy lasting h =
     subst (λ (q : Reader). GivesNext left count q (reader j g) before after answer) seen (goes_on left count i j f g before after answer healthy lasting h)
+
+-- what a reader means that stays with the fault of a call
+pub settled-at_fault : (held : List ℕ) (ended : Bool) (taken old new : ℕ) (fault : LineFault) → IsFaultAt held ended taken old new fault
+    → IsSettled held ended taken (lasting_fault (Err fault))
+settled-at_fault held ended taken old new ReadFault h = (h.1, h.2, h.3)
+settled-at_fault held ended taken old new (TooLong t) h = h
+settled-at_fault held ended taken old new Memory h = h

@@ -14,6 +14,7 @@ use Rattle.ct_kept.specs.Inside.Started.{HasGround, IsGroundBelow, IsStarted}
 use Rattle.ct_slots.specs.Number.{bound_of, distances, even_distances, side_size, side_number, slot_number, entries_to}
 use Rattle.ct_rule_parts.proofs.GetLemmas.{IsOldOrNew, slice_get-append_some, slice_get_push_cases}
 use Rattle.ct_kept.proofs.GroundLemmas.{Follows-ground, IsGround-line}
+use Rattle.ct_kept.proofs.LineLemmas.{kept_in}
 use Rattle.ct_kept.proofs.PutLemmas.{bound-put, reason-put, bound-put_other, reason-put_other}
 use Rattle.ct_slots.proofs.NumberLemmas.{entries_to-length, slot_number-bound, slot_number-injective}
 
@@ -27,6 +28,12 @@ IsStarted-none bounds reasons bound_count reason_count = record {
   grounded = λ s entry below. absurd (omega arith);
   lines = λ i l found. absurd (none-some l found);
 }
+
+pub IsStarted-empty : (kept : KeptValue) → length kept.bounds ≡ 2 * side_size → length kept.reasons ≡ 2 * side_size → kept.lines ≡ [] → kept.base ≡ 0
+    → IsStarted 0 kept
+IsStarted-empty kept bound_count reason_count no_lines no_base =
+    subst (IsStarted 0) (λ i. kept_in kept.bounds kept.reasons (sym no_lines i) (sym no_base i))
+    (IsStarted-none kept.bounds kept.reasons bound_count reason_count)
 
 -- the ground line of the slot that has the number is put
 pub IsStarted-put : (count : ℕ) (kept : KeptValue) (put : LineValue) → IsEntry put.claim.entry → slot_number (slot_of put.claim) ≡ count

@@ -46,3 +46,6 @@ returns-clause-value c =
 
 pub returns-clause-cites : goal.returns-clause-cites
 returns-clause-cites c = subst (All IsOne) (take_all c.loop-cite.cite-index c.args.cites.now c.loop-cite-test.false) c.loop-cite.invariant.1
+
+pub bounds-cites-cite-index : goal.bounds-cites-cite-index
+bounds-cites-cite-index c = c.loop-cite-test.true

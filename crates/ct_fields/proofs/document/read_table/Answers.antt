@@ -9,3 +9,6 @@ returns-in-Ok c = rw (view-Table c.in-Ok.table, table_of-parsed c.args.bytes.now
 
 pub returns-else-is_memory : goal.returns-else-is_memory
 returns-else-is_memory c = λ _. rw (table_of-refused c.args.bytes.now (c.in-Err.ensures.refused (λ memory. false≢true (sym c.if-is_memory.false ∙ c.is_memory.ensures.1 memory)))) refl
+
+pub returns-then-is_memory : goal.returns-then-is_memory
+returns-then-is_memory c = λ other. absurd (other refl)

@@ -29,3 +29,9 @@ returns-in_default c = λ own.
 
 pub returns : goal.returns
 returns c = words_from-end c.args.n c.args.first c.args.texts.now c.loop-place.place c.loop-place.words.items _ c.loop-place.invariant.0 c.loop-place-test.false
+
+pub parse_word-requires-clause-some : goal.parse_word-requires-clause-some
+parse_word-requires-clause-some c = c.requires.some
+
+pub parse_word-requires-clause-room : goal.parse_word-requires-clause-room
+parse_word-requires-clause-room c = c.requires.room

@@ -35,3 +35,12 @@ returns c =
     ∙ ap (λ (ds : List Data). array (items_of ds))
     (all_pushed view (λ (x : ℕ). string (word_text c.args.n x)) c.loop-word.values.items c.args.words.now c.loop-word.word-index c.loop-word-test.false
     c.loop-word.invariant.0)
+
+pub word_value-requires-clause-room : goal.word_value-requires-clause-room
+word_value-requires-clause-room c = c.requires.room
+
+pub word_value-requires-clause-word : goal.word_value-requires-clause-word
+word_value-requires-clause-word c = c.requires.words c.loop-word.word-index 0 c.loop-word-test.true
+
+pub bounds-words-word-index : goal.bounds-words-word-index
+bounds-words-word-index c = c.loop-word-test.true

@@ -10,3 +10,6 @@ returns-clause-best c =
     c.better_ground-disjoint.result.value c.better_ground.result.value refl c.first_ground-first.ensures.within
     c.better_ground-far.ensures.no_worse c.better_ground-far.ensures.within c.better_ground-disjoint.ensures.no_worse
     c.better_ground-disjoint.ensures.within c.better_ground.ensures.no_worse c.better_ground.ensures.within
+
+pub returns-in-Some-clause-best : goal.returns-in-Some-clause-best
+returns-in-Some-clause-best c = c.in-Some.ensures.best

@@ -11,3 +11,9 @@ returns-then-value-eq1-clause-given c =
 pub returns-then-value-eq1-clause-best : goal.returns-then-value-eq1-clause-best
 returns-then-value-eq1-clause-best c =
     subst (λ (v : ℕ). IsGroundBound (Upper, c.args.entry) v) (sym c.if-value-eq1.true) (least_upper Upper c.args.entry refl)
+
+pub returns-in_err-value-clause-given : goal.returns-in_err-value-clause-given
+returns-in_err-value-clause-given c = rw c.from_residual.ensures tt
+
+pub returns-in_err-value-clause-best : goal.returns-in_err-value-clause-best
+returns-in_err-value-clause-best c = rw c.from_residual.ensures tt

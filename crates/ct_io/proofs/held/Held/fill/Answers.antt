@@ -2,7 +2,7 @@ use Rattle.std.proofs.Common.{◌≡◌, ◌<◌, ◌≤◌, ◌+◌, ◌++◌, 
 use Rattle.std.specs.declared.alloc.AllocError.{AllocError}
 use Rattle.std.specs.Io.KnownBytes.{Consumes}
 use Rattle.ct_io.specs.Inside.Buffer.{Buffer}
-use Rattle.ct_io.proofs.HeldLemmas.{still-searched, start-within}
+use Rattle.ct_io.proofs.HeldLemmas.{still-searched, same-searched, start-within, room-left}
 use Rattle.ct_io.proofs.FillLemmas.{piece-read, front-long, fills-read, fills-failed}
 use Rattle.ct_io.proofs.held.Held.fill.Goals as goal
 
@@ -62,3 +62,24 @@ returns-in_default-clause-fills g c =
     (ap (λ (b : Buffer). b.bytes) c.self.view_is ∙ c.drop_given_out.ensures.same)
     (sym inside.bytes.ok.0 ∙ ap (λ (b : Buffer). b.kept) c.self.view_is ∙ c.drop_given_out.ensures.kept) new.ok.0 c.in_default.ensures.counted
     c.in_ok-reserve.ensures.items c.in_default.ensures.bytes c.in_default.ensures.failed
+
+pub invariant_of-self : goal.invariant_of-self
+invariant_of-self g c =
+    let inside = c.self.inside in
+    let new = c.reserve.new.self in
+    same-searched inside.start inside.searched inside.bytes.len new.len inside.bytes.items new.items c.self.invariant.0 inside.bytes.ok.0
+    c.self.invariant.1 c.in_err-reserve.ensures.items new.ok.0
+
+pub invariant_of-self-in_default : goal.invariant_of-self-in_default
+invariant_of-self-in_default g c =
+    let inside = c.self.inside in
+    let new = c.reserve.new.self in
+    same-searched inside.start inside.searched inside.bytes.len new.len inside.bytes.items new.items c.self.invariant.0 inside.bytes.ok.0
+    c.self.invariant.1 c.in_ok-reserve.ensures.items new.ok.0
+
+pub unwrap-requires : goal.unwrap-requires
+unwrap-requires g c =
+    let long = c.read.auto.into ∙ c.deref_mut.ensures.len in
+    let within = subst (λ (n : ℕ). c.in-Ok.count ≤ n) long c.in-Ok.ensures.within in
+    c.extend_from_slice.ensures.succeeds
+    (room-left c.reserve.new.self.len _ c.len.result c.args.piece.now.len c.in-Ok.count c.deref.result.now c.in_ok-reserve.ensures.ok c.len.ensures within)

@@ -42,3 +42,14 @@ pub returns-in_err-line-clause-all_kept : goal.returns-in_err-line-clause-all_ke
 returns-in_err-line-clause-all_kept c =
     let bytes = c.self.inside.bytes in
     subst (λ (b : Buffer). length b.bytes ≤ b.kept) c.self.view_is (left-within c.self.inside.start bytes.len bytes.items bytes.ok.0)
+
+pub returns-clause-kept : goal.returns-clause-kept
+returns-clause-kept c = ap (λ (b : Buffer). b.kept) c.self.view_is
+
+pub overflow_add-self : goal.overflow_add-self
+overflow_add-self c =
+    let bytes = c.self.inside.bytes in
+    let start = c.self.inside.start in
+    let feed = ap (λ (b : Buffer). slice_get b.bytes c.args.count) c.self.view_is ∙ c.requires in
+    let within : start + c.args.count + 1 ≤ bytes.len = fed-within bytes.items start c.args.count bytes.len bytes.ok.0 feed in
+    omega arith

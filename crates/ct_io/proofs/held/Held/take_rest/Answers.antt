@@ -25,3 +25,11 @@ returns-in_err-rest-clause-all_kept c =
 pub returns-clause-none_left : goal.returns-clause-none_left
 returns-clause-none_left c =
     none-left c.len-self-inside.result c.self.inside.bytes.len c.self.inside.bytes.items c.len-self-inside.ensures c.self.inside.bytes.ok.0
+
+pub returns-clause-kept : goal.returns-clause-kept
+returns-clause-kept c = ap (λ (b : Buffer). b.kept) c.self.view_is
+
+pub returns-then-self-len-clause-all_kept : goal.returns-then-self-len-clause-all_kept
+returns-then-self-len-clause-all_kept c =
+    let bytes = c.self.inside.bytes in
+    subst (λ (b : Buffer). length b.bytes ≤ b.kept) c.self.view_is (left-within c.self.inside.start bytes.len bytes.items bytes.ok.0)

@@ -1,10 +1,12 @@
-use Rattle.std.proofs.Common.{◌≡◌, ℕ, ◌+◌, ◌≤◌, List, ◌∷◌, ◌++◌, Some, length, take, length-append, length-take, inl, sym, refl, subst, ap, arith}
-use Rattle.std.specs.Prelude.{IfSome}
+use Rattle.std.proofs.Common.{◌≡◌, ◌≢◌, ℕ, ◌+◌, ◌<◌, ◌≤◌, List, [], ◌∷◌, ◌++◌, Vec, Global, Option, Some, None, Ok, length, take, length-append, length-take, inl, inr, sym, refl, subst, ap, ◌∙◌, arith}
+use Rattle.std.specs.Prelude.{IfSome, MatchOption}
 use Rattle.std.specs.List.{slice_get}
-use Rattle.std.proofs.lemmas.Option.{slice_get_within}
+use Rattle.std.proofs.lemmas.Bool.{false≢true}
+use Rattle.std.proofs.lemmas.Option.{none-some, slice_get_within}
 use Rattle.ct_text.specs.declared.document_lines.TheConstants.{LINE_FEED}
 use Rattle.ct_io.specs.Lines.{IsLine}
-use Rattle.ct_io.specs.Inside.Intake.{IsFound}
+use Rattle.ct_io.specs.declared.intake.Intake.{Intake}
+use Rattle.ct_io.specs.Inside.Intake.{GivesOut, IsFound}
 use Rattle.ct_io.proofs.intake.Intake.give_out.Goals as goal
 
 -- the bytes that are held are those of the line, a line feed and those that are left
@@ -38,3 +40,42 @@ returns-in_ok-take_line-in-Some c =
       ended = refl;
       memory = tt;
     }
+
+-- what is left at the end is given out, where it is something
+given-rest : (old new : Intake) (found : Option ℕ) (rest : Option (Vec ℕ Global)) → IsFound found old.held.bytes old.ended → found ≡ None
+    → MatchOption rest (old.held.bytes ≡ []) (λ line. (old.held.bytes ≡ line.items) × (0 < length line.items)) → new.held.bytes ≡ []
+    → new.held.kept ≡ old.held.kept → length new.held.bytes ≤ new.held.kept → new.taken ≡ old.taken → new.ended ≡ old.ended
+    → GivesOut old new found (Ok rest)
+given-rest old new (Some n) rest is none given after kept all_kept taken ended = absurd (none-some n (sym none))
+given-rest old new None None is none given after kept all_kept taken ended = record {
+  divides = (given, after, ended ∙ is.1);
+  rest = λ m few. tt;
+  size = let empty = ap length given in omega (arith, empty);
+  kept = kept;
+  all_kept = all_kept;
+  taken = taken;
+  ended = ended;
+  memory = tt;
+}
+given-rest old new None (Some line) is none given after kept all_kept taken ended =
+    let same = ap length given.0 in
+    let gone = ap length after in
+    record {
+      divides = ((subst IsLine given.0 is.0, inr (given.0, some_bytes line.items given.1, after)), λ going. absurd (false≢true (sym going ∙ ended ∙ is.1)));
+      rest = λ m few. omega (arith, gone);
+      size = omega (arith, same);
+      kept = kept;
+      all_kept = all_kept;
+      taken = taken;
+      ended = ended;
+      memory = tt;
+    }
+  where
+    some_bytes : (bytes : List ℕ) → 0 < length bytes → bytes ≢ []
+    some_bytes bytes some e = omega (arith, some, ap length e)
+
+pub returns-in_ok-take_rest-in-None : goal.returns-in_ok-take_rest-in-None
+returns-in_ok-take_rest-in-None c =
+    let given = c.in_ok-take_rest-in-None.ensures in
+    given-rest c.args.self.now _ c.args.found c.in_ok-take_rest-in-None.field-0 c.requires c.in-None.is given.all given.none_left given.kept
+    given.all_kept refl refl

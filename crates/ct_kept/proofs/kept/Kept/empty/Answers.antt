@@ -18,3 +18,6 @@ returns-clause-reasons c = all_zeros (2 * side_size) c.in_ok-vec.field-0.items (
 
 pub returns-clause-lines : goal.returns-clause-lines
 returns-clause-lines c = ap₂ (λ (xs ys : List LineValue). xs ++ ys) c.new.ensures.items c.new-2.ensures.items
+
+pub returns-clause-base : goal.returns-clause-base
+returns-clause-base c = ap length c.new.ensures.items

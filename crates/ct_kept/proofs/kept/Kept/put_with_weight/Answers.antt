@@ -40,3 +40,12 @@ returns c =
     let product = ap (λ z. z * (c.args.n + 1)) all in
     IsStarted-same c.loop-k.self (c.args.first + c.loop-k.k * (c.args.n + 1)) (c.args.first + even_distances * (c.args.n + 1)) (omega arith)
     c.loop-k.invariant
+
+pub put_weights-requires-clause-from : goal.put_weights-requires-clause-from
+put_weights-requires-clause-from c = c.requires.from
+
+pub put_weights-requires-clause-classes : goal.put_weights-requires-clause-classes
+put_weights-requires-clause-classes c = c.requires.classes
+
+pub put_weights-requires-clause-before : goal.put_weights-requires-clause-before
+put_weights-requires-clause-before c = c.loop-k.invariant

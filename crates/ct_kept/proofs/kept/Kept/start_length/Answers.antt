@@ -1,8 +1,13 @@
-use Rattle.std.proofs.Common.{◌+◌, ◌-◌, ◌*◌, OnOk, subst, arith}
+use Rattle.std.proofs.Common.{◌≡◌, ◌+◌, ◌-◌, ◌*◌, OnOk, sym, subst, ◌∙◌, arith}
+use Rattle.ct_words.specs.declared.claim.Side.TheVariants.{Lower, Upper}
 use Rattle.ct_kept.specs.Inside.Started.{IsStarted}
 use Rattle.ct_slots.specs.Number.{distances, entries_to, side_number, side_size}
 use Rattle.ct_kept.proofs.StartLemmas.{IsStarted-same, first_number, weights_number, all_numbers}
 use Rattle.ct_kept.proofs.kept.Kept.start_length.Goals as goal
+
+-- the sides are two
+other_side : Lower ≡ Upper → ⊥
+other_side e = cc
 
 pub put_distances-requires-clause-before : goal.put_distances-requires-clause-before
 put_distances-requires-clause-before c =
@@ -38,3 +43,33 @@ returns-in-Upper c =
     subst (λ k. OnOk c.put_with_weight-in-Upper.result (IsStarted k c.put_with_weight-in-Upper.new.self))
     (all_numbers c.args.side c.args.n c.slot_number-weighted.result c.requires.from c.slot_number-weighted.ensures.number)
     c.put_with_weight-in-Upper.ensures
+
+pub put_with_weight-requires-clause-from : goal.put_with_weight-requires-clause-from
+put_with_weight-requires-clause-from c = c.requires.from
+
+pub put_with_weight-requires-clause-to : goal.put_with_weight-requires-clause-to
+put_with_weight-requires-clause-to c = c.requires.to
+
+pub put_with_weight-requires-clause-bound : goal.put_with_weight-requires-clause-bound
+put_with_weight-requires-clause-bound c = c.slot_number-weighted.ensures.bound
+
+pub put_with_weight-requires-clause-first : goal.put_with_weight-requires-clause-first
+put_with_weight-requires-clause-first c = c.slot_number-weighted.ensures.number
+
+pub put_with_weight-requires-in-Upper-clause-from : goal.put_with_weight-requires-in-Upper-clause-from
+put_with_weight-requires-in-Upper-clause-from c = c.requires.from
+
+pub put_with_weight-requires-in-Upper-clause-to : goal.put_with_weight-requires-in-Upper-clause-to
+put_with_weight-requires-in-Upper-clause-to c = c.requires.to
+
+pub put_with_weight-requires-in-Upper-clause-bound : goal.put_with_weight-requires-in-Upper-clause-bound
+put_with_weight-requires-in-Upper-clause-bound c = c.slot_number-weighted.ensures.bound
+
+pub put_with_weight-requires-in-Upper-clause-first : goal.put_with_weight-requires-in-Upper-clause-first
+put_with_weight-requires-in-Upper-clause-first c = c.slot_number-weighted.ensures.number
+
+pub put_with_weight-requires-in-Upper-clause-classes : goal.put_with_weight-requires-in-Upper-clause-classes
+put_with_weight-requires-in-Upper-clause-classes c = λ lower. absurd (other_side (sym lower ∙ c.in-Upper.is))
+
+pub largest_sum_classes-requires : goal.largest_sum_classes-requires
+largest_sum_classes-requires c = (c.requires.from, c.requires.to)
