@@ -1,8 +1,9 @@
 -- How many words a step makes, and when nothing is told against it.
-use Rattle.std.specs.Prelude.{IfErr}
+use Rattle.std.specs.Prelude.{IfErr, IsOk, OnErr}
 use Rattle.std.specs.Option.{option_map, unwrap_or}
-use Rattle.std.proofs.Common.{min, mul-le-mul_right, IfSome, ◌&&◌, Result, Ok, Err, ◌≡◌, ◌≢◌, ℕ, zero, suc, ◌*◌, ◌≤◌, ◌==◌, Bool, true, false, nat_lt, if◌then◌else◌, List, [], ◌∷◌, length, take, Option, Some, None, refl, ap, sym, subst, ◌∙◌, arith, ltb-true, ltb-false, length-take}
+use Rattle.std.proofs.Common.{min, mul-le-mul_right, IfSome, ◌&&◌, Result, Ok, Err, ◌≡◌, ◌≢◌, ℕ, zero, suc, ◌*◌, ◌≤◌, ◌==◌, Bool, true, false, nat_lt, if◌then◌else◌, List, [], ◌∷◌, length, take, Option, Some, None, refl, ap, sym, subst, ◌∙◌, arith, ltb-true, ltb-false, length-take, IfOk, IfNone, IsPermutation, Vec, Global}
 use Rattle.std.proofs.Math.Nat.{min-eq_right}
+use Rattle.std.proofs.lemmas.List.Sorted.{IsPermutation-refl}
 use Rattle.std.proofs.lemmas.List.Sums.{length-filter, count_by-le-length}
 use Rattle.ct_words.specs.Word.{weight}
 use Rattle.ct_words.specs.declared.entry.Entry.{Entry}
@@ -24,6 +25,7 @@ use Rattle.ct_build.specs.declared.shape.Shape.{Shape}
 use Rattle.ct_build.specs.declared.step.Step.{Step}
 use Rattle.ct_build.specs.declared.step.Step.TheVariants.{Lengthen, AppendOne, Parity, Puncture, Shorten, Translate, Complement, Select, Uuv, Juxtapose, Trim}
 use Rattle.ct_build.specs.Build.{FieldsFit, FitsStated, shape_of, is_right_length, is_right_weight, few_fault, size_of, distance_of, other_of, is_right_other, step_distance, result_size, part_fault, other_fault, short_fault, above_limit, selected_of, built, sizes_fault, empty_fault, counted_fault, early_fault, told_empty_fault, told_fault, build_fault}
+use Rattle.ct_build.proofs.Failures.{failed}
 use Rattle.ct_build.proofs.StepLemmas.{IsReady, ready}
 
 shortened-few : (n : ℕ) (places digits words : List ℕ) → length (shortened n places digits words) ≤ length words
@@ -93,20 +95,11 @@ result_size-is (Trim size) e part other k is = length-take size part.words ∙ S
 pub result_size-none : (step : Step) (e : Entry) (part : CodeValue) (other : Option CodeValue)
     → result_size step (shape_of part) (option_map shape_of other) ≡ None → length (built step e part other) ≤ length part.words
 unfolding result_size
-result_size-none step e part other none = built-few step e part other (λ is. go step is none)
+result_size-none step e part other none =
+    built-few step e part other (λ is. unlike (subst (λ s. result_size s (shape_of part) (option_map shape_of other) ≡ None) is none))
   where
-    go : (s : Step) → s ≡ Uuv → result_size s (shape_of part) (option_map shape_of other) ≡ None → ⊥
-    go Lengthen is h = cc
-    go AppendOne is h = cc
-    go Parity is h = cc
-    go (Puncture places) is h = cc
-    go (Shorten places digits) is h = cc
-    go (Translate by) is h = cc
-    go Complement is h = cc
-    go (Select by) is h = cc
-    go Uuv is h = cc
-    go Juxtapose is h = cc
-    go (Trim size) is h = cc
+    unlike : result_size Uuv (shape_of part) (option_map shape_of other) ≡ None → ⊥
+    unlike h = cc
 
 pub none_above : (count : ℕ) → count ≤ MAX_BUILT → above_limit count ≡ None
 none_above count few = go (nat_lt MAX_BUILT count) refl
@@ -307,6 +300,44 @@ length_of_some (x ∷ xs) some = omega arith
 pub IfErr-anyway : {T E : Type 0} (r : Result T E) (Q : E → Type 0) → ((e : E) → Q e) → IfErr r Q
 IfErr-anyway (Ok v) Q each = tt
 IfErr-anyway (Err e) Q each = each e
+
+-- and what holds anyway holds where there is none
+pub IfNone-anyway : {X : Type 0} (o : Option X) (P : Type 0) → P → IfNone o P
+IfNone-anyway (Some x) P here = tt
+IfNone-anyway None P here = here
+
+-- words that are made as they are to be are these in an order
+pub as_made : {E : Type 0} (r : Result (Vec ℕ Global) E) (words all : List ℕ) → words ≡ all → IfOk r (λ v. v.items ≡ words)
+    → IfOk r (λ v. IsPermutation all v.items)
+as_made (Ok v) words all same made = subst (λ (ws : List ℕ). IsPermutation ws v.items) (made ∙ same) (IsPermutation-refl v.items)
+as_made (Err f) words all same made = tt
+
+-- where none are to be made, nothing fails
+pub none_made : {T E : Type 0} (r : Result T E) (words all : List ℕ) → all ≡ words → (words ≡ [] → IsOk r) → OnErr r (all ≢ [])
+none_made (Ok v) words all same none = tt
+none_made (Err f) words all same none = λ empty. failed (none (sym same ∙ empty))
+
+-- a step that makes a word of each word makes some of some
+pub each_some : (step kind : Step) (e : Entry) (part : CodeValue) (other : Option CodeValue) → step ≡ kind
+    → length (built kind e part other) ≡ length part.words → 1 ≤ length part.words → built step e part other ≢ []
+each_some step kind e part other is same some =
+    subst (λ s. built s e part other ≢ []) (sym is) (λ none. let no = ap length none in omega (arith, same, some, no))
+
+-- and so do two codes
+pub uuv_some : (e : Entry) (part o : CodeValue) (other : Option CodeValue) → other ≡ Some o → 1 ≤ length part.words → 1 ≤ length o.words
+    → built Uuv e part other ≢ []
+uuv_some e part o other is some second = subst (λ p. built Uuv e part p ≢ []) (sym is) (λ none.
+    let no = ap length none in
+    let count = built-uuv e part (Some o) in
+    let product = mul-le-mul_right {m = 1} {n = length part.words} (length o.words) some in
+    omega (arith, no, count, product, second))
+
+pub juxtapose_some : (e : Entry) (part o : CodeValue) (other : Option CodeValue) → other ≡ Some o → 1 ≤ length part.words → 1 ≤ length o.words
+    → built Juxtapose e part other ≢ []
+juxtapose_some e part o other is some second = subst (λ p. built Juxtapose e part p ≢ []) (sym is) (λ none.
+    let no = ap length none in
+    let count = built-juxtapose e part (Some o) in
+    omega (arith, no, count, some, second))
 
 -- some words come first where there are some
 take_some : (size : ℕ) (words : List ℕ) → 1 ≤ size → 1 ≤ length words → take size words ≢ []

@@ -1,5 +1,5 @@
 -- Builds that fail, and such as do not.
-use Rattle.std.proofs.Common.{◌≡◌, false, true, Result, Ok, Err}
+use Rattle.std.proofs.Common.{◌≡◌, ℕ, false, true, List, [], ◌∷◌, length, Result, Ok, Err, refl, arith}
 use Rattle.std.specs.Result.{IsErrAnd}
 use Rattle.ct_build.specs.declared.fault.BuildFault.{BuildFault}
 use Rattle.ct_build.specs.declared.fault.BuildFault.TheVariants.{Empty, Memory}
@@ -16,3 +16,8 @@ made v e same = cc
 -- and a test that fails does not pass
 pub failed : false ≡ true → ⊥
 failed passes = cc
+
+-- no words are left where they are none
+pub none_left : (words : List ℕ) → length words ≡ 0 → words ≡ []
+none_left [] none = refl
+none_left (x ∷ xs) none = absurd (omega arith)

@@ -1,5 +1,5 @@
 -- When a list of words is the value of a code.
-use Rattle.std.proofs.Common.{◌≡◌, ℕ, ◌≤◌, List, get_or, Option, Some, None, IfSome, All, arith}
+use Rattle.std.proofs.Common.{◌≡◌, ℕ, ◌^◌, ◌<◌, ◌≤◌, List, get_or, Option, Some, None, IfSome, All, arith}
 use Rattle.std.specs.Option.{ForSome}
 use Rattle.ct_words.specs.declared.limits.TheConstants.{MAX_N}
 use Rattle.ct_words.specs.Word.{weight}
@@ -27,3 +27,7 @@ weight_within c sound = go c.w sound.code.weights
 -- so it is at most the greatest length
 pub weight_limit : (c : CodeValue) → IsSoundCode c → ForSome c.w (λ k. k ≤ MAX_N)
 weight_limit c sound = λ k is. let few = weight_within c sound k is in let long = sound.length_in_range.1 in omega arith
+
+-- the words of a code, as they were read
+pub words_within : (c : CodeValue) (n : ℕ) (words : List ℕ) → IsSoundCode c → n ≡ c.n → words ≡ c.words → All (λ x. x < 2 ^ n) words
+words_within c n words sound same_n same_words = rw (same_n, same_words) sound.code.lengths

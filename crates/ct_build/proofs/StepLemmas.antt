@@ -8,7 +8,7 @@ use Rattle.ct_words.specs.declared.entry.Entry.{Entry}
 use Rattle.ct_words.specs.Entry.{IsEntry, same_weight}
 use Rattle.ct_words.specs.Code.{CodeValue}
 use Rattle.ct_words.proofs.CheckLemmas.{first_of-None}
-use Rattle.ct_words.proofs.EntryLemmas.{entry_limits}
+use Rattle.ct_words.proofs.EntryLemmas.{WeightFits, entry_limits}
 use Rattle.ct_words.specs.Constructions.Even.{even_from}
 use Rattle.ct_words.specs.Constructions.Juxtaposed.{added_weights}
 use Rattle.ct_words.specs.Constructions.Shortened.{shortened_weight}
@@ -209,3 +209,11 @@ room_juxtapose e part (Some p) table ready o is =
     let most = limits.length_to in
     let within : part.n + p.n ≤ MAX_N = omega arith in
     subst (λ q. part.n + q.n ≤ MAX_N) (Some-same p o is) within
+
+-- a weight that an entry of the table has is at most the greatest length
+pub stated_weight : (e : Entry) → IsEntry e → ForSome e.w (λ k. k ≤ MAX_N)
+stated_weight e table = let limits = entry_limits e table in go e.w limits.length_to limits.weight
+  where
+    go : (w : Option ℕ) → e.n ≤ MAX_N → WeightFits e w → ForSome w (λ k. k ≤ MAX_N)
+    go None short fits k is = cc
+    go (Some v) short fits k is = let same : v ≡ k = cc in let within = fits.2 in omega arith

@@ -1,5 +1,8 @@
 -- Lists of words that are made one word after another.
-use Rattle.std.proofs.Common.{◌≡◌, ℕ, Bool, true, false, ◌+◌, ◌*◌, ◌^◌, ◌<◌, ◌≤◌, List, [], ◌∷◌, ◌++◌, map, take, filter, get_or, length, sym, arith}
+use Rattle.std.proofs.Common.{◌≡◌, ℕ, Bool, true, false, ◌+◌, ◌-◌, ◌*◌, ◌^◌, ◌<◌, ◌≤◌, List, [], ◌∷◌, ◌++◌, map, take, filter, get_or, length, Iter, sym, ap, ◌∙◌, arith}
+use Rattle.std.specs.Iterator.Adapters.{zip_first, zip_second}
+use Rattle.std.specs.Slice.Iter.{iter_rest}
+use Rattle.std.specs.declared.iter.Zip.{Zip}
 use Rattle.std.proofs.Math.Nat.{pow-le-pow_right}
 use Rattle.std.proofs.lemmas.List.{map_more, map-append, append-nil}
 use Rattle.std.proofs.lemmas.List.Elements.{filter_more}
@@ -31,3 +34,17 @@ appended_fits code i a sound short within digit =
   where
     fits : (x a p : ℕ) → x < p → p ≤ 2 ^ MAX_N → a < 2 → x * 2 + a < 2 ^ 32
     fits x a p below most digit = omega arith
+
+-- two lists that are gone over together, from their first numbers on
+pub first_from : (s t : Zip (Iter ℕ) (Iter ℕ)) (it : Iter ℕ) (xs : List ℕ) → s ≡ t → zip_first t ≡ it → iter_rest it ≡ xs → iter_rest (zip_first s) ≡ xs
+first_from s t it xs same first is = ap (λ (z : Zip (Iter ℕ) (Iter ℕ)). iter_rest (zip_first z)) same ∙ ap (λ (i : Iter ℕ). iter_rest i) first ∙ is
+
+pub second_from : (s t : Zip (Iter ℕ) (Iter ℕ)) (ys : List ℕ) → s ≡ t → iter_rest (zip_second t) ≡ ys → iter_rest (zip_second s) ≡ ys
+second_from s t ys same is = ap (λ (z : Zip (Iter ℕ) (Iter ℕ)). iter_rest (zip_second z)) same ∙ is
+
+-- a place of a word is below its length, which is some
+pub length_from : (n p : ℕ) → p < n → 1 ≤ n
+length_from n p within = omega arith
+
+pub place_to : (n p : ℕ) → p < n → p ≤ n - 1
+place_to n p within = omega arith

@@ -2,6 +2,7 @@
 use Rattle.std.proofs.Common.{◌≡◌, ◌≢◌, ℕ, ◌^◌, ◌<◌, ◌%◌, Bool, true, false, List, length, codes, Option, Some, None, Result, Ok, option_map, refl, sym, ap, ◌∙◌, subst, le-leb, eq-eqb, eqb-true}
 use Rattle.std.specs.Prelude.{is_some, is_none, if◌then◌else◌}
 use Rattle.std.proofs.lemmas.Bool.{leb-true, false≢true}
+use Rattle.std.proofs.lemmas.Option.{same_Some}
 use Rattle.toml.specs.Data.{Data, string, table, Members, as_str}
 use Rattle.ct_words.specs.Text.{word_of, word_text}
 use Rattle.ct_words.proofs.TextLemmas.{word_of-word_text, word_from_text}
@@ -29,6 +30,7 @@ use Rattle.ct_fields.proofs.StepLemmas.{bind-ok, bind-at}
 use Rattle.ct_fields.proofs.FieldLemmas.{number_field-ok, number_field-from, text_field-ok, text_field-from}
 use Rattle.ct_fields.proofs.LastLemmas.{last_fields-from}
 use Rattle.ct_fields.specs.Tables.{HasText}
+use Rattle.ct_fields.proofs.OneAnswer.{same_value}
 use Rattle.ct_build_files.proofs.BuildEntryAnswers.{build_entry_of-from}
 use Rattle.ct_build_files.proofs.BuildFieldLemmas.{operation_field-from, id_field-ok, id_field-from, left_out-true, places_field-ok, places_field-from, digits_of-some, digits_of-text}
 
@@ -71,7 +73,7 @@ digits_found make count text s e = at (digits_of count text) refl e where
 -- a step without fields
 plain_step : (o : Operation) (e : Entry) (document : Data) (s t : Step)
     → ◌≡◌ {A = Result (Option Step) DocumentFault} (Ok (Some s)) (Ok (Some t)) → IsStep o e document s → IsStep o e document t
-plain_step o e document s t read is = let same : s ≡ t = cc in subst (IsStep o e document) same is
+plain_step o e document s t read is = subst (IsStep o e document) (same_Some s t (same_value (Some s) (Some t) read)) is
 
 -- a step that is read has its fields in the document and fits the entry
 pub step_ok : (o : Operation) (e : Entry) (document : Data) (s : Step) → makes_length o e.n ≡ true → takes_weight o e.w ≡ true
@@ -107,7 +109,7 @@ step_ok Puncture e document s long takes read =
 step_ok Shorten e document s long takes read =
     let (places, places-are, next) = bind-ok (field (places_in e.n) name.Places document) _ (Some s) read in
     let (text, text-is, last) = bind-ok (field as_str name.Digits document) _ (Some s) next in
-    let found : option_map (step.Shorten places) (digits_of (length places) text) ≡ Some s = cc in
+    let found : option_map (step.Shorten places) (digits_of (length places) text) ≡ Some s = same_value _ (Some s) last in
     let (digits, same, digits-are) = digits_found (step.Shorten places) (length places) text s found in
     let (is, kept, small) = digits_of-some (length places) text digits digits-are in
     let (has, passes) = places_field-ok e.n document places places-are in
@@ -120,7 +122,8 @@ step_ok Shorten e document s long takes read =
 step_ok Translate e document s long takes read =
     let (found_by, by-is, next) = bind-ok (by_field e.n document) _ (Some s) read in
     let (text, text-is, last) = bind-ok (field as_str name.By document) _ found_by by-is in
-    let found : option_map step.Translate (word_of e.n text) ≡ Some s = cc in
+    let found : option_map step.Translate (word_of e.n text) ≡ Some s =
+    ap (option_map step.Translate) (same_value _ found_by last) ∙ same_value _ (Some s) next in
     let (by, same, small, is) = word_found step.Translate e.n text s found in
     subst (IsStep Translate e document) same (record {
       same = refl;
@@ -136,7 +139,8 @@ step_ok Complement e document s long takes read =
 step_ok Select e document s long takes read =
     let (found_by, by-is, next) = bind-ok (by_field e.n document) _ (Some s) read in
     let (text, text-is, last) = bind-ok (field as_str name.By document) _ found_by by-is in
-    let found : option_map step.Select (word_of e.n text) ≡ Some s = cc in
+    let found : option_map step.Select (word_of e.n text) ≡ Some s =
+    ap (option_map step.Select) (same_value _ found_by last) ∙ same_value _ (Some s) next in
     let (by, same, small, is) = word_found step.Select e.n text s found in
     subst (IsStep Select e document) same (record {
       same = refl;

@@ -1,5 +1,5 @@
 -- The entry that a build states, and the fault of a document that states none.
-use Rattle.std.proofs.Common.{◌≡◌, ℕ, ◌%◌, Bool, true, false, ◌||◌, List, codes, Option, Some, None, Ok, Err, inl, inr, refl, ap, ◌∙◌, subst}
+use Rattle.std.proofs.Common.{◌≡◌, ℕ, ◌%◌, Bool, true, false, ◌||◌, List, codes, Option, Some, None, Ok, Err, inl, inr, refl, sym, ap, ◌∙◌, subst}
 use Rattle.std.specs.Option.{option_map_or}
 use Rattle.std.proofs.lemmas.Bool.{or_left}
 use Rattle.toml.specs.Data.{Data, string, integer, float, boolean, datetime, array, table, get}
@@ -17,6 +17,7 @@ use Rattle.ct_fields.proofs.StepLemmas.{bind-ok, bind-err, bind-at, bind-at_err,
 use Rattle.ct_fields.proofs.FieldLemmas.{bytes_eq-true, bytes_eq-self, number_field-ok, number_field-from}
 use Rattle.ct_fields.proofs.EntryAnswers.{number_field-err, distance-ok, distance-from, distance_beside-err, weight_field-ok, weight_field-from, weight_field-err}
 use Rattle.ct_fields.specs.Tables.{HasText}
+use Rattle.ct_fields.proofs.OneAnswer.{value_no_fault, read_no_fault, same_value}
 use Rattle.ct_build_files.specs.BuildEntry.{selects, build_entry_of}
 use Rattle.ct_build_files.specs.Operation.{operation_text}
 use Rattle.ct_build_files.specs.BuildAnswer.{HasBuildDistance, StatesBuildEntry, IsBuildEntryFault}
@@ -29,8 +30,7 @@ build_entry_of-ok document e read =
     let (n, n-is, next) = bind-ok (number_field N 1 MAX_N document) _ e read in
     let (d, d-is, after) = bind-ok (distance_beside (has_field W document || selects document) document) _ e next in
     let (w, w-is, last) = bind-ok (weight_field n document) _ e after in
-    let stated : Entry = record { n = n; d = d; w = w } in
-    let same : stated ≡ e = cc in
+    let same = same_value (record { n = n; d = d; w = w }) e last in
     let (far, even) = distance-ok (has_field W document || selects document) document d d-is in
     subst (StatesEntry document) same (record {
       with_length = number_field-ok N 1 MAX_N document n n-is;
@@ -49,6 +49,18 @@ build_entry_of-from document e states selected =
     either : (a b : Bool) → (a ≡ true → e.d % 2 ≡ 0) → (b ≡ true → e.d % 2 ≡ 0) → (a || b) ≡ true → e.d % 2 ≡ 0
     either true b first second h = first refl
     either false b first second h = second h
+
+-- so it is, field by field
+pub entry_read : (document : Data) (n d : ℕ) (w : Option ℕ) (even : Bool) → Ok n ≡ number_field N 1 MAX_N document
+    → even ≡ (has_field W document || selects document) → Ok d ≡ distance_beside even document → Ok w ≡ weight_field n document
+    → Ok (record { n = n; d = d; w = w }) ≡ build_entry_of document
+unfolding build_entry_of
+entry_read document n d w even n-is even-is d-is w-is =
+    sym
+    (bind-at (number_field N 1 MAX_N document) _ n (sym n-is)
+    ∙ bind-at (distance_beside (has_field W document || selects document) document) _ d
+    (ap (λ b. distance_beside b document) (sym even-is) ∙ sym d-is)
+    ∙ bind-at (weight_field n document) _ w (sym w-is))
 
 -- the operation is the text `select` exactly where the test passes
 is_text-true : (text : List ℕ) (d : Data) → is_text text d ≡ true → d ≡ string text
@@ -96,8 +108,7 @@ stated-ok document e read =
     let (n, n-is, next) = bind-ok (number_field N 1 MAX_N document) _ e read in
     let (d, d-is, after) = bind-ok (distance_beside (has_field W document || selects document) document) _ e next in
     let (w, w-is, last) = bind-ok (weight_field n document) _ e after in
-    let stated : Entry = record { n = n; d = d; w = w } in
-    let same : stated ≡ e = cc in
+    let same = same_value (record { n = n; d = d; w = w }) e last in
     subst (StatesBuildEntry document) same (record {
       with_length = number_field-ok N 1 MAX_N document n n-is;
       with_distance = build_distance-ok document d d-is;
@@ -117,20 +128,24 @@ pub stated-err : (document : Data) (fault : DocumentFault) → build_entry_of do
 unfolding build_entry_of
 stated-err document fault read =
     elim (bind-err (number_field N 1 MAX_N document) _ fault read) [
-      | inl none ↦ (N, number_field-err N 1 MAX_N document fault none, λ n has. let other = number_field-from N 1 MAX_N document n has in cc)
+      | inl none ↦ (N, number_field-err N 1 MAX_N document fault none, λ n has. read_no_fault _ n fault (number_field-from N 1 MAX_N document n has) none)
       | inr (n, n-is, next) ↦
           let at_n = number_field-ok N 1 MAX_N document n n-is in
           elim (bind-err (distance_beside (has_field W document || selects document) document) _ fault next) [
             | inl none ↦ (
               D,
               distance_beside-err (has_field W document || selects document) document fault none,
-              ((n, at_n), λ d has. let other = build_distance-from document d has in cc),
+              ((n, at_n), λ d has. read_no_fault _ d fault (build_distance-from document d has) none),
             )
             | inr (d, d-is, after) ↦
                 let at_d = build_distance-ok document d d-is in
                 elim (bind-err (weight_field n document) _ fault after) [
-                  | inl none ↦ (W, weight_field-err n document fault none, (n, at_n, (d, at_d), λ w has. let other = weight_field-from n document w has in cc))
-                  | inr (w, w-is, last) ↦ absurd cc
+                  | inl none ↦ (
+                    W,
+                    weight_field-err n document fault none,
+                    (n, at_n, (d, at_d), λ w has. read_no_fault _ w fault (weight_field-from n document w has) none),
+                  )
+                  | inr (w, w-is, last) ↦ absurd (value_no_fault _ fault last)
                 ]
           ]
     ]

@@ -33,6 +33,7 @@ use Rattle.ct_fields.proofs.StepLemmas.{bind-ok, bind-err, bind-at, bind-at_err,
 use Rattle.ct_fields.proofs.FieldLemmas.{number_field-ok, number_field-from, text_field-ok, text_field-from}
 use Rattle.ct_fields.proofs.LastLemmas.{last_fields-ok, last_fields-from, last_fields-err, last_fields-wrong, last_fields-other, wrong_cites, other_key}
 use Rattle.ct_fields.proofs.EntryAnswers.{number_field-err}
+use Rattle.ct_fields.proofs.OneAnswer.{value_no_fault, read_no_fault, same_value, found_some}
 use Rattle.ct_build_files.proofs.BuildEntryAnswers.{build_entry_of-ok, stated-ok, stated-from, stated-err, stated-fault}
 use Rattle.ct_build_files.proofs.BuildFieldLemmas.{operation_field-ok, operation_field-from, id_field-ok, id_field-from, left_out-true, places_field-ok, places_field-from, digits_of-some, digits_of-text}
 use Rattle.ct_build_files.proofs.BuildAnswers.{step_ok, OtherNamed, other_field-ok, other_field-from, names_other, build_answer-from}
@@ -111,32 +112,32 @@ own_read Trim n document (size, has) =
 text_err : (name : FieldName) (document : Data) (other : DocumentFault) → field as_str name document ≡ Err other
     → (Field name ≡ other) × ((text : List ℕ) → ¬ (HasText name document text))
 text_err name document other e =
-    ((ok_or-err _ (Field name) other e).1, λ text has. let read = text_field-from name document text has in absurd cc)
+    ((ok_or-err _ (Field name) other e).1, λ text has. read_no_fault _ text other (text_field-from name document text has) e)
 
 places_err : (n : ℕ) (document : Data) (other : DocumentFault) → field (places_in n) name.Places document ≡ Err other
     → (Field name.Places ≡ other) × ((places : List ℕ) → ¬ (HasPlaces n document places))
 places_err n document other e =
-    ((ok_or-err _ (Field name.Places) other e).1, λ places has. let read = read_places n document places has in absurd cc)
+    ((ok_or-err _ (Field name.Places) other e).1, λ places has. read_no_fault _ places other (read_places n document places has) e)
 
 by_err : (n : ℕ) (document : Data) (other : DocumentFault) → by_field n document ≡ Err other
     → (Field name.By ≡ other) × ((text : List ℕ) → ¬ (HasText name.By document text))
 by_err n document other e =
     elim (bind-err (field as_str name.By document) _ other e) [
       | inl none ↦ text_err name.By document other none
-      | inr (text, is, last) ↦ absurd cc
+      | inr (text, is, last) ↦ absurd (value_no_fault _ other last)
     ]
 
 -- the fault of an operation's own fields is that of the first that is missing or wrong
 own_err : (o : Operation) (e : Entry) (document : Data) (other : DocumentFault) → SuitsEntry document e o → step_fields o e.n document ≡ Err other
     → IsBuildFault document other
 unfolding step_fields
-own_err Lengthen e document other suits read = absurd cc
-own_err AppendOne e document other suits read = absurd cc
-own_err Parity e document other suits read = absurd cc
+own_err Lengthen e document other suits read = absurd (value_no_fault _ _ read)
+own_err AppendOne e document other suits read = absurd (value_no_fault _ _ read)
+own_err Parity e document other suits read = absurd (value_no_fault _ _ read)
 own_err Puncture e document other suits read =
     elim (bind-err (field (places_in e.n) name.Places document) _ other read) [
       | inl none ↦ let (is, never) = places_err e.n document other none in subst (IsBuildFault document) is (e, Puncture, suits, never)
-      | inr (places, are, last) ↦ absurd cc
+      | inr (places, are, last) ↦ absurd (value_no_fault _ _ last)
     ]
 own_err Shorten e document other suits read =
     elim (bind-err (field (places_in e.n) name.Places document) _ other read) [
@@ -145,28 +146,28 @@ own_err Shorten e document other suits read =
         | inl none ↦
             let (is, never) = text_err name.Digits document other none in
             subst (IsBuildFault document) is (e, Shorten, suits, ((places, has_places e.n document places are), never))
-        | inr (text, is, last) ↦ absurd cc
+        | inr (text, is, last) ↦ absurd (value_no_fault _ _ last)
       ]
     ]
 own_err Translate e document other suits read =
     elim (bind-err (by_field e.n document) _ other read) [
       | inl none ↦ let (is, never) = by_err e.n document other none in subst (IsBuildFault document) is (e, Translate, suits, never)
-      | inr (by, is, last) ↦ absurd cc
+      | inr (by, is, last) ↦ absurd (value_no_fault _ _ last)
     ]
-own_err Complement e document other suits read = absurd cc
+own_err Complement e document other suits read = absurd (value_no_fault _ _ read)
 own_err Select e document other suits read =
     elim (bind-err (by_field e.n document) _ other read) [
       | inl none ↦ let (is, never) = by_err e.n document other none in subst (IsBuildFault document) is (e, Select, suits, never)
-      | inr (by, is, last) ↦ absurd cc
+      | inr (by, is, last) ↦ absurd (value_no_fault _ _ last)
     ]
-own_err Uuv e document other suits read = absurd cc
-own_err Juxtapose e document other suits read = absurd cc
+own_err Uuv e document other suits read = absurd (value_no_fault _ _ read)
+own_err Juxtapose e document other suits read = absurd (value_no_fault _ _ read)
 own_err Trim e document other suits read =
     elim (bind-err (number_field name.Size 1 MAX_BUILT document) _ other read) [
       | inl none ↦
           subst (IsBuildFault document) (number_field-err name.Size 1 MAX_BUILT document other none)
-          (e, Trim, suits, λ size has. let found = number_field-from name.Size 1 MAX_BUILT document size has in absurd cc)
-      | inr (size, is, last) ↦ absurd cc
+          (e, Trim, suits, λ size has. read_no_fault _ size other (number_field-from name.Size 1 MAX_BUILT document size has) none)
+      | inr (size, is, last) ↦ absurd (value_no_fault _ _ last)
     ]
 
 -- a text that writes no word
@@ -201,15 +202,15 @@ no_digits-from make count text never = at (digits_of count text) refl where
 -- no step is found where the text of digits is wrong
 wrong_text : (o : Operation) (n : ℕ) (document : Data) → step_fields o n document ≡ Ok None → IsWrongText o n document
 unfolding step_fields
-wrong_text Lengthen n document read = absurd cc
-wrong_text AppendOne n document read = absurd cc
-wrong_text Parity n document read = absurd cc
+wrong_text Lengthen n document read = absurd (found_some _ read)
+wrong_text AppendOne n document read = absurd (found_some _ read)
+wrong_text Parity n document read = absurd (found_some _ read)
 wrong_text Puncture n document read =
-    let (places, places-are, last) = bind-ok (field (places_in n) name.Places document) _ None read in absurd cc
+    let (places, places-are, last) = bind-ok (field (places_in n) name.Places document) _ None read in absurd (found_some _ last)
 wrong_text Shorten n document read =
     let (places, places-are, next) = bind-ok (field (places_in n) name.Places document) _ None read in
     let (text, text-is, last) = bind-ok (field as_str name.Digits document) _ None next in
-    let none : option_map (step.Shorten places) (digits_of (length places) text) ≡ None = cc in (
+    let none : option_map (step.Shorten places) (digits_of (length places) text) ≡ None = same_value _ None last in (
       places,
       text,
       has_places n document places places-are,
@@ -219,18 +220,18 @@ wrong_text Shorten n document read =
 wrong_text Translate n document read =
     let (by, by-is, next) = bind-ok (by_field n document) _ None read in
     let (text, text-is, last) = bind-ok (field as_str name.By document) _ by by-is in
-    let none : option_map step.Translate (word_of n text) ≡ None = cc in
+    let none : option_map step.Translate (word_of n text) ≡ None = ap (option_map step.Translate) (same_value _ by last) ∙ same_value _ None next in
     (text, text_field-ok name.By document text text-is, no_word step.Translate n text none)
-wrong_text Complement n document read = absurd cc
+wrong_text Complement n document read = absurd (found_some _ read)
 wrong_text Select n document read =
     let (by, by-is, next) = bind-ok (by_field n document) _ None read in
     let (text, text-is, last) = bind-ok (field as_str name.By document) _ by by-is in
-    let none : option_map step.Select (word_of n text) ≡ None = cc in
+    let none : option_map step.Select (word_of n text) ≡ None = ap (option_map step.Select) (same_value _ by last) ∙ same_value _ None next in
     (text, text_field-ok name.By document text text-is, no_word step.Select n text none)
-wrong_text Uuv n document read = absurd cc
-wrong_text Juxtapose n document read = absurd cc
+wrong_text Uuv n document read = absurd (found_some _ read)
+wrong_text Juxtapose n document read = absurd (found_some _ read)
 wrong_text Trim n document read =
-    let (size, size-is, last) = bind-ok (number_field name.Size 1 MAX_BUILT document) _ None read in absurd cc
+    let (size, size-is, last) = bind-ok (number_field name.Size 1 MAX_BUILT document) _ None read in absurd (found_some _ last)
 
 wrong_text-from : (o : Operation) (n : ℕ) (document : Data) → IsWrongText o n document → step_fields o n document ≡ Ok None
 unfolding step_fields
@@ -252,14 +253,14 @@ other_err : (o : Operation) (document : Data) (other : DocumentFault) → other_
 other_err o document other e = at (takes_other o) refl e where
   at : (b : Bool) → takes_other o ≡ b → (if b then (id_field name.Other document >>= (λ id. Ok (Some id))) else Ok None) ≡ Err other
       → (Field name.Other ≡ other) × (takes_other o ≡ true) × ((id : List ℕ) → ¬ (HasId name.Other document id))
-  at false is h = absurd cc
+  at false is h = absurd (value_no_fault None other h)
   at true is h = elim (bind-err (id_field name.Other document) _ other h) [
     | inl none ↦ (
       (ok_or-err _ (Field name.Other) other none).1,
       is,
-      λ id has. let read = id_field-from name.Other document id has in absurd cc,
+      λ id has. read_no_fault _ id other (id_field-from name.Other document id has) none,
     )
-    | inr (id, id-is, last) ↦ absurd cc
+    | inr (id, id-is, last) ↦ absurd (value_no_fault (Some id) other last)
   ]
 
 other_there : (o : Operation) (document : Data) (other : Option (List ℕ)) → OtherNamed o document other → takes_other o ≡ true
@@ -324,7 +325,7 @@ build_answer ms of_kind =
     subst (λ f. P (Err f)) is (e, o, names, takes_one, never)))
     (λ other_fault f-is.
     let is = (ok_or-err _ (Field name.Part) other_fault f-is).1 in
-    subst (λ f. P (Err f)) is (e, o, suits, own, λ id has. let read = id_field-from name.Part document id has in absurd cc)))
+    subst (λ f. P (Err f)) is (e, o, suits, own, λ id has. read_no_fault _ id other_fault (id_field-from name.Part document id has) f-is)))
     (λ other_fault f-is. own_err o e document other_fault suits f-is))
     (λ other_fault f-is.
     let (out, is) = check-err (takes_weight o e.w) (Field name.W) other_fault f-is in
@@ -334,7 +335,7 @@ build_answer ms of_kind =
     subst (λ f. P (Err f)) is (inr (e, o, stated, out))))
     (λ other_fault f-is.
     let is = (ok_or-err _ (Field name.Op) other_fault f-is).1 in
-    subst (λ f. P (Err f)) is ((e, stated-ok document e e-is), λ o has. let read = operation_field-from document o has in absurd cc)))
+    subst (λ f. P (Err f)) is ((e, stated-ok document e e-is), λ o has. read_no_fault _ o other_fault (operation_field-from document o has) f-is)))
     (λ other_fault f-is.
     let (field_name, is, first) = stated-err document other_fault f-is in
     subst (λ f. P (Err f)) is (entry_fault document field_name first))

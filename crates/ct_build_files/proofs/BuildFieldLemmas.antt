@@ -1,9 +1,10 @@
 -- What the own fields of a build are, where they are read.
-use Rattle.std.proofs.Common.{◌≡◌, ℕ, zero, suc, ◌+◌, ◌-◌, ◌<◌, ◌≤◌, get_or, true, ◌&&◌, ◌==◌, nat_le, nat_lt, pos, List, [], ◌∷◌, length, map, All, Some, Ok, inl, inr, refl, ap, ◌∙◌, subst, le-leb, eq-eqb, eqb-true, arith}
+use Rattle.std.proofs.Common.{◌≡◌, ◌≢◌, ℕ, zero, suc, ◌+◌, ◌-◌, ◌<◌, ◌≤◌, get_or, true, ◌&&◌, ◌==◌, nat_le, nat_lt, pos, List, [], ◌∷◌, length, map, All, Some, None, Ok, inl, inr, refl, ap, ◌∙◌, subst, le-leb, eq-eqb, eqb-true, arith}
+use Rattle.std.specs.Prelude.{if◌then◌else◌, ⊤}
 use Rattle.std.specs.List.{list_all}
 use Rattle.std.specs.List.Sorted.{IsStrictlyIncreasing}
 use Rattle.std.specs.Str.{bytes_eq}
-use Rattle.std.proofs.lemmas.Bool.{and_parts, and_from, cases_Bool, leb-true, ltb-true, lt-ltb}
+use Rattle.std.proofs.lemmas.Bool.{and_parts, and_from, cases_Bool, false_from_ne_true, leb-true, ltb-true, lt-ltb}
 use Rattle.std.proofs.lemmas.List.Elements.{All-nil, All-cons, All-head, All-tail}
 use Rattle.std.proofs.lemmas.Option.{option_and_then_some, cond_some}
 use Rattle.toml.specs.Data.{Data, string, integer, float, boolean, datetime, array, table, get, as_str}
@@ -52,6 +53,21 @@ operation_named-text Select = refl
 operation_named-text Uuv = refl
 operation_named-text Juxtapose = refl
 operation_named-text Trim = refl
+
+-- a text of none of these operations, and of none at all
+abbrev AreOthers : List Operation → List ℕ → Type 0
+AreOthers [] text = ⊤
+AreOthers (o ∷ os) text = (text ≢ operation_text o) × AreOthers os text
+
+named_among-none : (os : List Operation) (text : List ℕ) → AreOthers os text → named_among os text ≡ None
+named_among-none [] text others = refl
+named_among-none (o ∷ os) text (other, others) =
+    let unlike = false_from_ne_true (bytes_eq text (operation_text o)) (λ same. other (bytes_eq-true text (operation_text o) same)) in
+    ap (λ b. if b then Some o else named_among os text) unlike ∙ named_among-none os text others
+
+pub operation_named-none : (text : List ℕ) → AreOthers operations text → operation_named text ≡ None
+unfolding operation_named
+operation_named-none text others = named_among-none operations text others
 
 operation_in-some : (d : Data) (o : Operation) → operation_in d ≡ Some o → d ≡ string (operation_text o)
 unfolding operation_named

@@ -21,6 +21,7 @@ use Rattle.ct_fields.proofs.FieldLemmas.{number_field-ok, number_field-from}
 use Rattle.ct_fields.proofs.EntryAnswers.{number_field-err}
 use Rattle.ct_fields.specs.Forms.{pair_in, all_of}
 use Rattle.ct_fields.proofs.FormLemmas.{ReadsBack, pair-reads, all-some, all-from, integer-reads, index-reads}
+use Rattle.ct_fields.proofs.OneAnswer.{value_no_fault, same_value}
 use Rattle.ct_parity.specs.declared.sums.TheConstants.{MAX_ODD}
 use Rattle.ct_duals.specs.Dual.{degree_of, is_in_range}
 use Rattle.ct_duals.specs.Form.{is_number, are_multipliers, are_allowances_from, are_allowances}
@@ -144,7 +145,7 @@ allowances-stated e even document y h = go (get (field_text name.Y) document) re
   where
     go : (o : Option Data) → get (field_text name.Y) document ≡ o
         → cond (is_some o) (field (allowances_in e even) name.Y document) (Ok []) ≡ Ok y → HasAllowances e even document y
-    go None none h = let same : [] ≡ y = cc in inr (none, sym same)
+    go None none h = inr (none, sym (same_value [] y h))
     go (Some value) there h =
         option_and_then_some (allowances_in e even) (get (field_text name.Y) document) y (ok_or-ok _ (Field name.Y) y h) (λ d found is.
         let (d-is, test) = allowances_in-some e even d y is in
@@ -161,7 +162,7 @@ pub allowances-err : (e : Entry) (even : Bool) (document : Data) (fault : Docume
 allowances-err e even document fault h = go (has_field name.Y document) h
   where
     go : (b : Bool) → cond b (field (allowances_in e even) name.Y document) (Ok []) ≡ Err fault → Field name.Y ≡ fault
-    go false h = absurd cc
+    go false h = absurd (value_no_fault [] fault h)
     go true h = (ok_or-err _ (Field name.Y) fault h).1
 
 -- the mark is read exactly where it is stated
@@ -181,11 +182,11 @@ even-stated d document even h = go (get (field_text name.Even) document) refl h
   where
     go : (o : Option Data) → get (field_text name.Even) document ≡ o → cond (is_some o) (marked d document) (Ok false) ≡ Ok even
         → HasEven d document even
-    go None none h = let same : false ≡ even = cc in inr (none, sym same)
+    go None none h = inr (none, sym (same_value false even h))
     go (Some value) there h =
         let (b, found, rest) = bind-ok (field as_bool name.Even document) _ even h in
         let (u, passes, last) = bind-ok (check (not b || d % 2 == 0) (Field name.Even)) _ even rest in
-        let same : b ≡ even = cc in
+        let same = same_value b even last in
         let stands = option_and_then_some as_bool (get (field_text name.Even) document) b (ok_or-ok _ (Field name.Even) b found)
         (λ v found is. found ∙ ap Some (as_bool-some v b is)) in
         subst (HasEven d document) same (inl (stands, even_passes b d (check-ok (not b || d % 2 == 0) (Field name.Even) u passes)))
@@ -198,12 +199,12 @@ pub even-err : (d : ℕ) (document : Data) (fault : DocumentFault) → even_fiel
 even-err d document fault h = go (has_field name.Even document) h
   where
     go : (b : Bool) → cond b (marked d document) (Ok false) ≡ Err fault → Field name.Even ≡ fault
-    go false h = absurd cc
+    go false h = absurd (value_no_fault false fault h)
     go true h = elim (bind-err (field as_bool name.Even document) _ fault h) [
       | inl wrong ↦ (ok_or-err _ (Field name.Even) fault wrong).1
       | inr (b, found, rest) ↦ elim (bind-err (check (not b || d % 2 == 0) (Field name.Even)) _ fault rest) [
         | inl odd ↦ (check-err (not b || d % 2 == 0) (Field name.Even) fault odd).1
-        | inr (u, passed, last) ↦ absurd cc
+        | inr (u, passed, last) ↦ absurd (value_no_fault b fault last)
       ]
     ]
 
@@ -212,7 +213,7 @@ pub odd_size-stated : (document : Data) (m : ℕ) → odd_size_field document �
 odd_size-stated document m read =
     let (k, found, rest) = bind-ok (number_field name.M 3 MAX_ODD document) _ m read in
     let (u, passes, last) = bind-ok (check (k % 2 == 1) (Field name.M)) _ m rest in
-    let same : k ≡ m = cc in
+    let same = same_value k m last in
     let (has, low, high) = number_field-ok name.M 3 MAX_ODD document k found in
     subst (HasOddSize document) same (has, (low, high, eqb-true (k % 2) 1 (check-ok (k % 2 == 1) (Field name.M) u passes)))
 
@@ -225,6 +226,6 @@ odd_size-err document fault h = elim (bind-err (number_field name.M 3 MAX_ODD do
   | inl wrong ↦ number_field-err name.M 3 MAX_ODD document fault wrong
   | inr (k, found, rest) ↦ elim (bind-err (check (k % 2 == 1) (Field name.M)) _ fault rest) [
     | inl even ↦ (check-err (k % 2 == 1) (Field name.M) fault even).1
-    | inr (u, passed, last) ↦ absurd cc
+    | inr (u, passed, last) ↦ absurd (value_no_fault k fault last)
   ]
 ]

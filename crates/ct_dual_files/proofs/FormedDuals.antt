@@ -14,6 +14,7 @@ use Rattle.ct_fields.specs.declared.field.FieldName.{FieldName}
 use Rattle.ct_fields.specs.declared.fault.DocumentFault.{DocumentFault}
 use Rattle.ct_fields.proofs.StepLemmas.{bind-ok}
 use Rattle.ct_fields.proofs.EntryAnswers.{plain_entry_of-ok}
+use Rattle.ct_fields.proofs.OneAnswer.{same_value}
 use Rattle.ct_duals.specs.declared.dual.Dual.{Dual}
 use Rattle.ct_duals.specs.Dual.{IsMarkOf, IsDual}
 use Rattle.ct_dual_files.specs.Fields.{even_field, odd_size_field, multipliers_field, allowances_field}
@@ -97,9 +98,6 @@ pub formed_local : (document : Data) (d : Dual) → StatesWeightedEntry document
 formed_local document d states unmarked multipliers allows =
     weighted_form document d states unmarked multipliers (are_allowances d.entry d.even document d.y allows)
 
-same_ok : {A : Type 0} (x y : A) → ◌≡◌ {A = Result A DocumentFault} (Ok x) (Ok y) → x ≡ y
-same_ok x y e = cc
-
 -- the fields after the mark state one, where an entry with multipliers and allowances does
 after_entry : (names : List FieldName) (document : Data) (e : Entry) (even : Bool) (d : Dual)
     → ((c : List ℤ) (y : List (ℕ × ℤ)) → HasMultipliers e document c → HasAllowances e even document y
@@ -110,7 +108,7 @@ after_entry names document e even d formed h =
     let (y, y-is, h2) = bind-ok (allowances_field e even document) _ d h1 in
     let stated : Dual = record { entry = e; even = even; c = c; y = y } in
     let (u, u-is, h3) = bind-ok (last_fields names document) (λ _. Ok stated) d h2 in
-    subst IsDual (same_ok stated d h3) (formed c y (multipliers-stated e document c c-is) (allowances-stated e even document y y-is))
+    subst IsDual (same_value stated d h3) (formed c y (multipliers-stated e document c c-is) (allowances-stated e even document y y-is))
 
 after-formed : (names : List FieldName) (document : Data) (e : Entry) (even : Bool) (d : Dual) → StatesEven document e even
     → dual_after e even names document ≡ Ok d → IsDual d
@@ -136,7 +134,7 @@ odd_of-formed document odd h =
     let (d, d-is, h4) = bind-ok (dual_after e even odd_fields document) (λ d. Ok (d, m)) odd h3 in
     let states : StatesEven document e even = record { entry = plain_entry_of-ok document e e-is; marked = even-stated e.d document even even-is } in
     let both : IsDual d × IsOddSize m = (after-formed odd_fields document e even d states d-is, (odd_size-stated document m m-is).1) in
-    subst (λ (o : Dual × ℕ). IsDual o.0 × IsOddSize o.1) (same_ok (d, m) odd h4) both
+    subst (λ (o : Dual × ℕ). IsDual o.0 × IsOddSize o.1) (same_value (d, m) odd h4) both
 
 -- a document of kind jdual states a dual
 johnson_dual_of-formed : (document : Data) (d : Dual) → johnson_dual_of document ≡ Ok d → IsDual d
@@ -146,7 +144,7 @@ johnson_dual_of-formed document d h =
     let (c, c-is, h2) = bind-ok (multipliers_field e document) _ d h1 in
     let stated : Dual = record { entry = e; even = false; c = c; y = [] } in
     let (u, u-is, h3) = bind-ok (last_fields johnson_dual_fields document) (λ _. Ok stated) d h2 in
-    subst IsDual (same_ok stated d h3)
+    subst IsDual (same_value stated d h3)
     (formed_weighted document stated (weighted-ok document e e-is) refl (multipliers-stated e document c c-is) refl)
 
 -- and one of kind jlocal

@@ -18,6 +18,7 @@ use Rattle.ct_fields.proofs.StepLemmas.{bind-ok, bind-err, bind-at, bind-at_err,
 use Rattle.ct_fields.proofs.FieldLemmas.{number_field-ok, number_field-from}
 use Rattle.ct_fields.proofs.LastLemmas.{last_fields-ok, last_fields-from, last_fields-err, last_fields-wrong, last_fields-other, wrong_cites, other_key}
 use Rattle.ct_fields.proofs.EntryAnswers.{number_field-err, distance_beside-err, distance-ok, distance-from}
+use Rattle.ct_fields.proofs.OneAnswer.{value_no_fault, read_no_fault, same_value}
 use Rattle.ct_duals.specs.declared.dual.Dual.{Dual}
 use Rattle.ct_dual_files.specs.Fields.{multipliers_field}
 use Rattle.ct_dual_files.specs.Dual.{weighted_entry_of, johnson_dual_of}
@@ -38,7 +39,7 @@ weighted-ok document e read =
     let (n, n-is, next) = bind-ok (number_field name.N 1 MAX_N document) _ e read in
     let (d, d-is, after) = bind-ok (distance_beside true document) _ e next in
     let (w, w-is, last) = bind-ok (number_field name.W 0 n document) _ e after in
-    let same : constant_weight n d w ≡ e = cc in
+    let same = same_value (constant_weight n d w) e last in
     subst (StatesWeightedEntry document) same (record {
       with_length = number_field-ok name.N 1 MAX_N document n n-is;
       with_distance = even_distance-ok document d d-is;
@@ -59,14 +60,18 @@ pub weighted-err : (document : Data) (fault : DocumentFault) → weighted_entry_
 unfolding weighted_entry_of
 weighted-err document fault read =
     elim (bind-err (number_field name.N 1 MAX_N document) _ fault read) [
-      | inl none ↦ (name.N, number_field-err name.N 1 MAX_N document fault none, λ n has. let other = number_field-from name.N 1 MAX_N document n has in cc)
+      | inl none ↦ (
+        name.N,
+        number_field-err name.N 1 MAX_N document fault none,
+        λ n has. read_no_fault _ n fault (number_field-from name.N 1 MAX_N document n has) none,
+      )
       | inr (n, n-is, next) ↦
           let at_n = number_field-ok name.N 1 MAX_N document n n-is in
           elim (bind-err (distance_beside true document) _ fault next) [
             | inl none ↦ (
               name.D,
               distance_beside-err true document fault none,
-              ((n, at_n), λ d has. let other = even_distance-from document d has in cc),
+              ((n, at_n), λ d has. read_no_fault _ d fault (even_distance-from document d has) none),
             )
             | inr (d, d-is, after) ↦
                 let at_d = even_distance-ok document d d-is in
@@ -74,9 +79,9 @@ weighted-err document fault read =
                   | inl none ↦ (
                     name.W,
                     number_field-err name.W 0 n document fault none,
-                    (n, at_n, (d, at_d), λ w has. let other = number_field-from name.W 0 n document w has in cc),
+                    (n, at_n, (d, at_d), λ w has. read_no_fault _ w fault (number_field-from name.W 0 n document w has) none),
                   )
-                  | inr (w, w-is, last) ↦ absurd cc
+                  | inr (w, w-is, last) ↦ absurd (value_no_fault _ fault last)
                 ]
           ]
     ]
@@ -132,7 +137,7 @@ johnson_dual_answer ms of_kind =
       | other_key is right key other ↦ subst (λ f. P (Err f)) is (stated e c, key, fields, right, other)
     ]))
     (λ fault wrong.
-    subst (λ f. P (Err f)) (multipliers-err e document fault wrong) (e, entry, λ c has. let read = multipliers-read e document c has in cc)))
+    subst (λ f. P (Err f)) (multipliers-err e document fault wrong) (e, entry, λ c has. read_no_fault _ c fault (multipliers-read e document c has) wrong)))
     (λ fault wrong.
     let (name, is, first) = weighted-err document fault wrong in
     subst (λ f. P (Err f)) is (entry_answer document name first))

@@ -180,6 +180,10 @@ without_representatives document e basis entry at_basis none =
     ∙ bind-at_err (texts_field Representatives document) _ (Field Representatives)
     (field-missing texts_in Representatives document (λ texts is. none texts (texts_field-ok Representatives document texts is)))
 
+-- words are no fault
+no_fault : (words : List ℕ) (fault : DocumentFault) → ◌≡◌ {A = Result (List ℕ) DocumentFault} (Ok words) (Err fault) → ⊥
+no_fault words fault same = cc
+
 -- a document with a text of no word
 with_wrong_text : (ms : Members) (e : Entry) (basis texts : List (List ℕ)) (i : ℕ) → IsCosetsDocument (table ms) e basis texts → IsFirstWrong e.n (basis ++ texts) i
     → cosets_evidence_of (table ms) ≡ Err (Digits i)
@@ -192,7 +196,7 @@ with_wrong_text ms e basis texts i form first =
           bind-at (words_from e.n 0 basis) _ words words-are
           ∙ elim (bind-err (words_from e.n (0 + length basis) texts) _ (Digits i) next) [
             | inl after ↦ bind-at_err (words_from e.n (length basis) texts) _ (Digits i) (ap (λ k. words_from e.n k texts) (sym (zero-add (length basis))) ∙ after)
-            | inr (more, more-are, last) ↦ absurd cc
+            | inr (more, more-are, last) ↦ absurd (no_fault (words ++ more) (Digits i) last)
           ]
     ])
 

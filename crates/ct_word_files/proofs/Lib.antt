@@ -4,3 +4,4 @@ pub mod WrittenWords
 pub mod WordRooms
 pub mod WordsKind
 pub mod CosetsKind
+mod WordSteps

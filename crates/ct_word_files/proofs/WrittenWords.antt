@@ -1,9 +1,9 @@
 -- The tables that are written for words and cosets.
-use Rattle.std.proofs.Common.{ap, lit≤, ◌≤◌, ◌^◌, map, codes, Option, Some, None, ◌≡◌, ℕ, ◌<◌, true, List, refl, sym, arith}
+use Rattle.std.proofs.Common.{ap, lit≤, ◌≤◌, ◌^◌, map, codes, Option, Some, None, ◌≡◌, ℕ, ◌<◌, true, List, refl, sym, ◌∙◌, arith}
 use Rattle.std.specs.Prelude.{All}
 use Rattle.std.proofs.lemmas.Bool.{false≢true}
 use Rattle.std.proofs.lemmas.Simd.{map-map}
-use Rattle.toml.specs.Data.{Data, string, array, table, get, members_depth}
+use Rattle.toml.specs.Data.{Data, Members, string, array, table, get, members_depth}
 use Rattle.toml.specs.View.{items_of}
 use Rattle.ct_words.specs.Text.{word_text}
 use Rattle.ct_words.specs.declared.entry.Entry.{Entry}
@@ -15,6 +15,7 @@ use Rattle.ct_fields.specs.LastFields.{last_fields}
 use Rattle.ct_fields.specs.StatedEntry.{entry_of, plain_entry_of}
 use Rattle.ct_fields.specs.Tables.{IsOfKind, HasTexts}
 use Rattle.ct_fields.specs.StatesEntry.{StatesEntry}
+use Rattle.ct_fields.specs.Written.{word_texts, put, put_weight, entry_table}
 use Rattle.ct_fields.specs.declared.field.FieldName.TheVariants as name
 use Rattle.ct_fields.proofs.LastLemmas.{AreOwn, HasLast-own, not_there}
 use Rattle.ct_fields.proofs.CitedTables.{Alike}
@@ -133,3 +134,20 @@ pub cosets-alike : (document other : Data) → Alike document other → last_fie
 unfolding cosets_evidence_of plain_entry_of
 cosets-alike document other alike last =
     rw (alike.fields name.N refl, alike.fields name.D refl, alike.fields name.Basis refl, alike.fields name.Representatives refl, last) refl
+
+-- the tables, as they are put together
+pub put_words_table : (e : Entry) (words : List ℕ) (first second third : Members) → first ≡ entry_table (codes "words") e.n e.d → second ≡ put_weight e.w first
+    → third ≡ put name.Words (word_texts e.n words) second → third ≡ words_table e words
+put_words_table e words first second third one two three =
+    three ∙ ap (put name.Words (word_texts e.n words)) (two ∙ ap (put_weight e.w) one) ∙ at e.w
+  where
+    at : (w : Option ℕ)
+        → put name.Words (word_texts e.n words) (put_weight w (entry_table (codes "words") e.n e.d)) ≡ words_table (record { n = e.n; d = e.d; w = w }) words
+    at None = refl
+    at (Some w) = refl
+
+pub put_cosets_table : (e : Entry) (basis representatives : List ℕ) (first second third : Members) → first ≡ entry_table (codes "cosets") e.n e.d
+    → second ≡ put name.Basis (word_texts e.n basis) first → third ≡ put name.Representatives (word_texts e.n representatives) second
+    → third ≡ cosets_table e basis representatives
+put_cosets_table e basis representatives first second third one two three =
+    three ∙ ap (put name.Representatives (word_texts e.n representatives)) (two ∙ ap (put name.Basis (word_texts e.n basis)) one)

@@ -1,9 +1,12 @@
-use Rattle.std.proofs.Common.{◌≡◌, length, Option, None, sym, ◌∙◌, option_copied, arith, rules, eqb-true, false-eqb}
+use Rattle.std.proofs.Common.{◌≡◌, ℕ, ◌≤◌, Option, None, sym, ◌∙◌, option_copied, arith, eqb-true, false-eqb}
 use Rattle.std.proofs.lemmas.List.Sorted.{length_permutation, IsPermutation-trans}
 use Rattle.ct_words.proofs.CheckLemmas.{IsCode-permutation}
+use Rattle.ct_words.proofs.EntryLemmas.{entry_limits}
+use Rattle.ct_words.specs.declared.limits.TheConstants.{MAX_N}
+use Rattle.ct_words.specs.declared.code.TheConstants.{MAX_CODE_DISTANCE}
 use Rattle.ct_words.specs.declared.entry.Entry.{Entry}
 use Rattle.ct_build.specs.declared.fault.BuildFault.{BuildFault}
-use Rattle.ct_build.specs.declared.fault.BuildFault.TheVariants.{Memory}
+use Rattle.ct_build.specs.declared.fault.BuildFault.TheVariants.{Empty, Memory}
 use Rattle.ct_build.specs.declared.shape.Shape.{Shape}
 use Rattle.ct_build.specs.declared.step.Step.{Step}
 use Rattle.ct_build.specs.Build.{built, early_fault, build_fault}
@@ -26,8 +29,10 @@ returns-then-is_empty-clause-fault c = λ other.
     let words = built c.args.step.now c.args.stated c.args.part.now (option_copied c.args.other) in
     let same = length_permutation words c.in_ok-words.words.items c.in_ok-words.ensures.words in
     let none = eqb-true c.in_ok-words.words.len 0 (sym c.is_empty.ensures ∙ c.if-is_empty.true) in
-    let long : length c.in_ok-words.words.items ≡ c.in_ok-words.words.len = search rules in
-    fault_empty c.args.step.now c.args.stated c.args.part.now (option_copied c.args.other) (told c.args.step.now c.args.stated c.of.ensures.value c.shape_beside.ensures.value c.early_fault.ensures.value ∙ c.in_default.is) (omega arith)
+    let long = c.in_ok-words.words.ok.0 in
+    fault_empty c.args.step.now c.args.stated c.args.part.now (option_copied c.args.other)
+    (told c.args.step.now c.args.stated c.of.ensures.value c.shape_beside.ensures.value c.early_fault.ensures.value ∙ c.in_default.is)
+    (omega (arith, same, none, long))
 
 pub code_of-requires-clause-code : goal.code_of-requires-clause-code
 code_of-requires-clause-code c =
@@ -44,8 +49,10 @@ returns-clause-accepted c =
     let words = built c.args.step.now c.args.stated c.args.part.now (option_copied c.args.other) in
     let same = length_permutation words c.in_ok-words.words.items c.in_ok-words.ensures.words in
     let some = false-eqb c.in_ok-words.words.len 0 (sym c.if-is_empty.false ∙ c.is_empty.ensures) in
-    let long : length c.in_ok-words.words.items ≡ c.in_ok-words.words.len = search rules in
-    fault_none c.args.step.now c.args.stated c.args.part.now (option_copied c.args.other) (told c.args.step.now c.args.stated c.of.ensures.value c.shape_beside.ensures.value c.early_fault.ensures.value ∙ c.in_default.is) (grind (arith, some))
+    let long = c.in_ok-words.words.ok.0 in
+    fault_none c.args.step.now c.args.stated c.args.part.now (option_copied c.args.other)
+    (told c.args.step.now c.args.stated c.of.ensures.value c.shape_beside.ensures.value c.early_fault.ensures.value ∙ c.in_default.is)
+    (omega (arith, same, some, long))
 
 pub returns-clause-words : goal.returns-clause-words
 returns-clause-words c =
@@ -64,3 +71,40 @@ returns-in_err-words-clause-memory c =
     let words = built c.args.step.now e part other in
     IfErr-anyway c.from_residual.result (λ fault. fault ≡ Memory → build_fault c.args.step.now e part other ≡ None)
     (λ fault memory. fault_none c.args.step.now e part other (told c.args.step.now c.args.stated c.of.ensures.value c.shape_beside.ensures.value c.early_fault.ensures.value ∙ c.in_default.is) (length_of_some words c.in_err-words.ensures.some))
+
+-- a distance of the table is one of codes
+far : (d : ℕ) → 3 ≤ d → d ≤ MAX_N → (1 ≤ d) × (d ≤ MAX_CODE_DISTANCE)
+far d from to = (omega arith, omega arith)
+
+pub code_of-requires-clause-length : goal.code_of-requires-clause-length
+code_of-requires-clause-length c = let limits = entry_limits c.args.stated c.requires.fits.entry in (limits.length_from, limits.length_to)
+
+pub code_of-requires-clause-distance : goal.code_of-requires-clause-distance
+code_of-requires-clause-distance c =
+    let limits = entry_limits c.args.stated c.requires.fits.entry in
+    far c.args.stated.d limits.distance_from limits.distance_to
+
+pub code_of-requires-clause-some : goal.code_of-requires-clause-some
+code_of-requires-clause-some c =
+    let some = false-eqb c.in_ok-words.words.len 0 (sym c.if-is_empty.false ∙ c.is_empty.ensures) in
+    let long = c.in_ok-words.words.ok.0 in
+    omega (arith, some, long)
+
+pub returns-clause-n : goal.returns-clause-n
+returns-clause-n c = c.code_of.ensures.n
+
+pub returns-clause-d : goal.returns-clause-d
+returns-clause-d c = c.code_of.ensures.d
+
+pub returns-clause-w : goal.returns-clause-w
+returns-clause-w c = c.code_of.ensures.w
+
+pub returns-clause-sound : goal.returns-clause-sound
+returns-clause-sound c = c.code_of.ensures.sound
+
+-- that there are no words is not want of memory
+not_memory : Empty ≡ Memory → ⊥
+not_memory same = cc
+
+pub returns-then-is_empty-clause-memory : goal.returns-then-is_empty-clause-memory
+returns-then-is_empty-clause-memory c = λ memory. absurd (not_memory memory)

@@ -1,5 +1,8 @@
-use Rattle.std.proofs.Common.{◌%◌, ◌^◌, ◌<◌, ◌++◌, [], ◌∷◌, ap, sym, ◌∙◌, arith}
+use Rattle.std.proofs.Common.{◌≡◌, ◌%◌, ◌^◌, ◌<◌, ◌==◌, ◌++◌, [], ◌∷◌, ap, sym, ◌∙◌, arith}
+use Rattle.std.specs.List.{filter}
 use Rattle.std.proofs.lemmas.Nat.{one_shl}
+use Rattle.ct_words.specs.Word.{weight}
+use Rattle.ct_words.specs.Text.{tabulate}
 use Rattle.ct_words.proofs.Constructions.EvenLemmas.{even_words-more_yes, even_words-more_no}
 use Rattle.ct_build.proofs.even.words_of_even_weight.Goals as goal
 use Rattle.ct_build.proofs.even.words_of_even_weight.Goals.{then-weight-eq0+in_ok-push, else-weight-eq0}
@@ -19,3 +22,12 @@ loop-word-preserved c =
           ap (λ v. v.items) w.words-is ∙ c.loop-word.invariant
           ∙ sym (even_words-more_no n word (λ even. w.if-weight-eq0.false (sym parity_is ∙ even)))
     ]
+
+pub returns : goal.returns
+returns c =
+    let n = c.args.n in
+    let all = one_shl n 32 (let few = c.requires.room in omega arith) in
+    let past = c.loop-word-test.false in
+    let to = c.loop-word.auto.word-end in
+    let end : c.loop-word.word ≡ 2 ^ n = omega (arith, all, past, to) in
+    c.loop-word.invariant ∙ ap (λ m. filter (λ x. weight n x % 2 == 0) (tabulate (λ x. x) m)) end

@@ -1,5 +1,5 @@
 -- The first words of a code are one, and as many as are asked for.
-use Rattle.std.proofs.Common.{◌≡◌, ℕ, ◌≤◌, List, length, take, ap, sym, ◌∙◌, subst, arith}
+use Rattle.std.proofs.Common.{◌≡◌, ℕ, ◌≤◌, List, length, take, inl, ap, ap₂, sym, ◌∙◌, subst, arith}
 use Rattle.std.proofs.lemmas.List.{length-take}
 use Rattle.ct_words.specs.Code.{CodeValue, IsSoundCode}
 use Rattle.ct_words.proofs.Constructions.FrontLemmas.{IsCode-take, ascending-take}
@@ -37,10 +37,25 @@ sound c long first =
     IsSoundCode-same (record { n = part.n; d = part.d; w = part.w; words = take size part.words }) _ _ _ _ c.n.ensures.value c.d.ensures.value c.w.ensures.value
     first (sound_front part size c.n.ensures.sound c.requires long)
 
+pub slice_bounds-from_slice-end : goal.slice_bounds-from_slice-end
+slice_bounds-from_slice-end c = sym (length_front c.args.size c.words-words.result.now c.if-words-size.false)
+
+pub returns-then-words-size-clause-faults : goal.returns-then-words-size-clause-faults
+returns-then-words-size-clause-faults c = inl (ap₂ (λ n s. Few n s) (ap length c.words-words.ensures.value) c.from.ensures)
+
 pub from_sorted-requires : goal.from_sorted-requires
 from_sorted-requires c =
     let at = goal.at.from_sorted-requires c in
     record { code = sound at.After-w (long_enough at.In_ok-first) (words_are at.In_ok-first) }
+
+pub returns-clause-n : goal.returns-clause-n
+returns-clause-n c = ap (λ (v : CodeValue). v.n) c.from_sorted.ensures.value ∙ c.n.ensures.value
+
+pub returns-clause-d : goal.returns-clause-d
+returns-clause-d c = ap (λ (v : CodeValue). v.d) c.from_sorted.ensures.value ∙ c.d.ensures.value
+
+pub returns-clause-words : goal.returns-clause-words
+returns-clause-words c = ap (λ (v : CodeValue). v.words) c.from_sorted.ensures.value ∙ words_are ((goal.at.returns-clause-words c).In_ok-first)
 
 pub returns-clause-size : goal.returns-clause-size
 returns-clause-size c =

@@ -1,5 +1,5 @@
-use Rattle.std.proofs.Common.{◌≡◌, ℕ, ◌*◌, ◌%◌, ◌^◌, List, [], ◌∷◌, ◌++◌, get_or, bit_or, bit_xor, sym, ap₂, ◌∙◌, arith}
-use Rattle.std.proofs.lemmas.List.{map_more}
+use Rattle.std.proofs.Common.{◌≡◌, ℕ, ◌*◌, ◌%◌, ◌^◌, List, [], ◌∷◌, ◌++◌, map, get_or, bit_or, bit_xor, sym, ap, ap₂, subst, ◌∙◌, arith, IsPermutation}
+use Rattle.std.proofs.lemmas.List.{map_more, take_all}
 use Rattle.std.proofs.lemmas.Nat.{xor_lt}
 use Rattle.ct_words.specs.Constructions.Joined.{followed_by}
 use Rattle.ct_words.proofs.Constructions.JoinedLemmas.{or-followed_by}
@@ -20,3 +20,9 @@ loop-v-preserved c =
     c.in_ok-push.ensures.items
     ∙ ap₂ (λ (ws : List ℕ) (w : ℕ). ws ++ w ∷ []) c.loop-v.invariant pushed
     ∙ sym (map_more f vs i 0 c.loop-v-test.true)
+
+pub returns-clause-permutation : goal.returns-clause-permutation
+returns-clause-permutation c =
+    let f : ℕ → ℕ = λ x. followed_by c.args.n c.args.u (bit_xor c.args.u x) in
+    let all = take_all c.loop-v.v-index c.args.vs.now c.loop-v-test.false in
+    subst (λ (ws : List ℕ). IsPermutation ws c.in_order.result.items) (c.loop-v.invariant ∙ ap (map f) all) c.in_order.ensures.permutation

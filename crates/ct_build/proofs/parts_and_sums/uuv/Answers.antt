@@ -5,12 +5,21 @@ use Rattle.ct_words.specs.Code.{IsCode, CodeValue}
 use Rattle.ct_words.proofs.CheckLemmas.{IsCode-permutation}
 use Rattle.ct_words.specs.Constructions.Uuv.{uuv_words}
 use Rattle.ct_words.proofs.Constructions.UuvCodes.{length-uuv_words, IsCode-uuv}
+use Rattle.ct_build.proofs.Sound.{words_within}
 use Rattle.ct_build.proofs.parts_and_sums.uuv.Goals as goal
 
 -- the words of the two codes, as they were read
 read : {n m : ℕ} {us us' vs vs' words : List ℕ} → n ≡ m → us ≡ us' → vs ≡ vs' → IsPermutation (uuv_words n us vs) words
     → IsPermutation (uuv_words m us' vs') words
 read {words = words} same first second h = subst (λ ws. IsPermutation ws words) (λ i. uuv_words (same i) (first i) (second i)) h
+
+pub words_and_sums-requires-clause-first : goal.words_and_sums-requires-clause-first
+words_and_sums-requires-clause-first c =
+    words_within c.args.part.now c.n-n.result c.words.result.now c.n-n.ensures.sound c.n-n.ensures.value c.words.ensures.value
+
+pub words_and_sums-requires-clause-second : goal.words_and_sums-requires-clause-second
+words_and_sums-requires-clause-second c =
+    words_within c.args.other.now c.n-n.result c.words-2.result.now c.words-2.ensures.sound (c.n-n.ensures.value ∙ c.requires.lengths) c.words-2.ensures.value
 
 pub code_of-requires-clause-some : goal.code_of-requires-clause-some
 code_of-requires-clause-some c =

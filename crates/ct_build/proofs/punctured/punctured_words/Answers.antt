@@ -5,6 +5,12 @@ use Rattle.ct_words.specs.Constructions.Places.{other_places, read_at}
 use Rattle.ct_build.proofs.WordByWord.{mapped_more}
 use Rattle.ct_build.proofs.punctured.punctured_words.Goals as goal
 
+pub without_places-requires-clause-length : goal.without_places-requires-clause-length
+without_places-requires-clause-length c = c.requires.length
+
+pub without_places-requires-clause-places : goal.without_places-requires-clause-places
+without_places-requires-clause-places c = c.requires.places
+
 pub without_places-requires-clause-word : goal.without_places-requires-clause-word
 without_places-requires-clause-word c = c.requires.words c.loop-word.word-index 0 c.loop-word-test.true
 

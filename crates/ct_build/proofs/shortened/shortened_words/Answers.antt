@@ -8,6 +8,15 @@ use Rattle.ct_build.proofs.WordByWord.{kept_more, left_out}
 use Rattle.ct_build.proofs.shortened.shortened_words.Goals as goal
 use Rattle.ct_build.proofs.shortened.shortened_words.Goals.{then-has_digits+in_ok-push, else-has_digits}
 
+pub has_digits-requires-clause-places : goal.has_digits-requires-clause-places
+has_digits-requires-clause-places c = c.requires.places
+
+pub without_places-requires-clause-length : goal.without_places-requires-clause-length
+without_places-requires-clause-length c = c.requires.length
+
+pub without_places-requires-clause-places : goal.without_places-requires-clause-places
+without_places-requires-clause-places c = c.requires.places
+
 pub without_places-requires-clause-word : goal.without_places-requires-clause-word
 without_places-requires-clause-word c = c.requires.words c.loop-word.word-index 0 c.loop-word-test.true
 

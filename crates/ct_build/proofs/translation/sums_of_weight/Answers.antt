@@ -1,5 +1,6 @@
 use Rattle.std.proofs.Common.{◌≡◌, ◌≢◌, ℕ, ◌^◌, ◌<◌, bit_xor, length, get_or, ◌++◌, [], ◌∷◌, ap, sym, ◌∙◌, subst}
 use Rattle.std.specs.Prelude.{⊤}
+use Rattle.std.proofs.lemmas.List.{take_all}
 use Rattle.std.proofs.lemmas.Nat.{xor_lt}
 use Rattle.std.proofs.lemmas.Result.{MatchResult-from_err}
 use Rattle.ct_words.specs.Word.{weight}
@@ -43,3 +44,8 @@ loop-word-preserved c =
           ap (λ v. v.items) w.chosen-is ∙ c.loop-word.invariant
           ∙ sym (selected-more_no part.n c.args.by c.args.w words i c.loop-word-test.true (λ e. w.if-weight-w.false (sym is ∙ e)))
     ]
+
+pub returns-clause-words : goal.returns-clause-words
+returns-clause-words c =
+    let all = take_all c.loop-word.word-index c.words-words.result.now c.loop-word-test.false in
+    c.loop-word.invariant ∙ ap (selected c.args.part.now.n c.args.by c.args.w) (all ∙ c.words-words.ensures.value)

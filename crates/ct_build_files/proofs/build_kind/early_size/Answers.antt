@@ -1,5 +1,5 @@
-use Rattle.std.proofs.Common.{◌≡◌, ℕ, List, Option, Some, None, IfOk, IfErr, option_map, sym, ap, subst, ◌∙◌}
-use Rattle.std.specs.Prelude.{OnSome}
+use Rattle.std.proofs.Common.{◌≡◌, ℕ, List, Option, Some, None, Result, Ok, Err, IfOk, IfErr, option_map, sym, ap, subst, ◌∙◌}
+use Rattle.std.specs.Prelude.{OnOk, OnSome}
 use Rattle.ct_words.specs.Pairs.{first_of}
 use Rattle.ct_kind.specs.declared.fault.SubmitFault.{SubmitFault}
 use Rattle.ct_kind.specs.declared.fault.SubmitFault.TheVariants.{NoSuch}
@@ -27,3 +27,11 @@ returns-clause-fault g c =
     let known = g.P.Codes.known c.args.pieces.now in
     let reason = late-reason known b.entry b.step.now b.part b.other (sym c.missing_part.ensures ∙ c.in_default.is) in
     subst (λ (found : Option SubmitFault). IfErr c.early_words.result (λ fault. found ≡ Some fault)) (sym reason) c.early_words.ensures.fault
+
+-- what holds at all holds where there is an answer
+holds : {T E P : Type 0} (r : Result T E) → P → OnOk r P
+holds (Ok x) p = p
+holds (Err y) p = tt
+
+pub returns-clause-parts : goal.returns-clause-parts
+returns-clause-parts g c = holds c.early_words.result (sym c.missing_part.ensures ∙ c.in_default.is)

@@ -2,7 +2,7 @@ use Rattle.std.proofs.Common.{◌≡◌, Some, None, option_map, sym, ap, ◌∙
 use Rattle.ct_build.specs.Build.{shape_of, result_size, told_fault}
 use Rattle.ct_build.proofs.BuildFaults.{told_not_memory}
 use Rattle.ct_kind.specs.Named.{code_named, other_named}
-use Rattle.ct_build_files.proofs.BuildChecks.{early_reason, early_words-is, early-accepted}
+use Rattle.ct_build_files.proofs.BuildChecks.{early_reason, early_words-is, early-accepted, early-coded}
 use Rattle.ct_build_files.proofs.build_kind.early_words.Goals as goal
 
 pub returns-in-Ok-clause-size : goal.returns-in-Ok-clause-size
@@ -40,3 +40,7 @@ returns-in-Err-clause-fault g c =
     ap (told_fault b.step.now b.entry c.in-Some.shape) (sym c.shape_beside-beside.ensures.shape) ∙ c.in-Err.ensures.fault in
     let plain = told_not_memory b.step.now b.entry c.in-Some.shape (option_map shape_of beside) c.in-Err.fault told in
     early_reason b.entry b.step.now b.part b.other first beside c.in-Some.shape c.in-Err.fault is told ∙ ap Some (sym (c.refusal.ensures.refusal plain))
+
+pub returns-in-Ok-clause-coded : goal.returns-in-Ok-clause-coded
+returns-in-Ok-clause-coded g c =
+    early-coded (code_named c.args.build.now.part (g.P.Codes.known c.args.pieces.now)) c.in-Some.shape (sym c.shape.ensures.shape ∙ c.in-Some.is)

@@ -3,8 +3,11 @@ use Rattle.std.proofs.lemmas.List.{get_or_default}
 use Rattle.toml.specs.Data.{Data, integer, array}
 use Rattle.toml.specs.View.{view, items_of}
 use Rattle.toml.proofs.Views.{view-Array}
-use Rattle.ct_fields.proofs.PushedValues.{pushed, all_pushed}
+use Rattle.ct_fields.proofs.PushedValues.{none_pushed, pushed, all_pushed}
 use Rattle.ct_build_files.proofs.written_build.number_list.Goals as goal
+
+pub loop-number-init : goal.loop-number-init
+loop-number-init c = none_pushed view (λ (k : ℕ). integer (pos k)) c.in_ok-values.values.items c.args.numbers.now c.in_ok-values.ensures.items
 
 pub loop-number-preserved : goal.loop-number-preserved
 loop-number-preserved c =

@@ -6,8 +6,11 @@ use Rattle.toml.specs.View.{view, items_of}
 use Rattle.toml.proofs.Views.{view-Integer, view-Array}
 use mir.Val.{to_z, of_z}
 use mir.Syntax.{w64}
-use Rattle.ct_fields.proofs.PushedValues.{pushed, all_pushed}
+use Rattle.ct_fields.proofs.PushedValues.{none_pushed, pushed, all_pushed}
 use Rattle.ct_dual_files.proofs.written.integer_list.Goals as goal
+
+pub loop-integer-init : goal.loop-integer-init
+loop-integer-init c = none_pushed view (λ (z : ℤ). integer z) c.in_ok-values.values.items c.args.integers.now c.in_ok-values.ensures.items
 
 pub loop-integer-preserved : goal.loop-integer-preserved
 loop-integer-preserved c =

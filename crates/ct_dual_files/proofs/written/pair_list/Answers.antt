@@ -6,9 +6,12 @@ use Rattle.toml.specs.View.{view, items_of}
 use Rattle.toml.proofs.Views.{view-Array}
 use mir.Val.{to_z, of_z}
 use mir.Syntax.{w64}
-use Rattle.ct_fields.proofs.PushedValues.{pushed, all_pushed}
+use Rattle.ct_fields.proofs.PushedValues.{none_pushed, pushed, all_pushed}
 use Rattle.ct_dual_files.specs.WrittenDuals.{index_pair}
 use Rattle.ct_dual_files.proofs.written.pair_list.Goals as goal
+
+pub loop-i-init : goal.loop-i-init
+loop-i-init c = none_pushed view index_pair c.in_ok-values.values.items c.args.pairs.now c.in_ok-values.ensures.items
 
 pub loop-i-preserved : goal.loop-i-preserved
 loop-i-preserved c =

@@ -1,29 +1,38 @@
-use Rattle.std.proofs.Common.{◌≡◌, ℕ, List, length, Ok, sym, ap, ap₂, ◌∙◌}
-use Rattle.std.specs.Borrow.{Bor}
-use Rattle.std.proofs.lemmas.List.{length-map}
-use Rattle.ct_words.specs.declared.entry.Entry.{Entry}
-use Rattle.ct_fields.specs.Fields.{words_from}
+use Rattle.std.proofs.Common.{Ok, sym, ap₂, ◌∙◌}
+use Rattle.std.proofs.lemmas.Result.{err_from_is_err_and}
 use Rattle.ct_fields.specs.Reads.{texts_behind}
-use Rattle.ct_fields.proofs.StepLemmas.{bind-at}
+use Rattle.ct_fields.proofs.OneAnswer.{handed_on}
+use Rattle.ct_kind.specs.declared.evidence.Evidence.{Evidence}
 use Rattle.ct_kind.specs.declared.evidence.Evidence.TheVariants.{Cosets}
 use Rattle.ct_word_files.specs.Cosets.{coset_count, cosets_of_texts}
+use Rattle.ct_word_files.proofs.WordSteps.{cosets-no_word, cosets-miscounted, cosets-read}
 use Rattle.ct_word_files.proofs.cosets.cosets_of_texts.Goals as goal
 
--- the texts of both lists are words, and their counts are right
-read : (e : Entry) (references : List (Bor (List ℕ))) (texts : List (List ℕ)) (basis representatives : List ℕ)
-    → words_from e.n 0 (texts_behind references) ≡ Ok basis
-    → words_from e.n (length references) texts ≡ Ok representatives
-    → coset_count basis representatives ≡ Ok tt
-    → cosets_of_texts e (texts_behind references) texts ≡ Ok (Cosets e basis representatives)
-read e references texts basis representatives first second count =
-    bind-at (words_from e.n 0 (texts_behind references)) _ basis first
-    ∙ bind-at (words_from e.n (length (texts_behind references)) texts) _ representatives
-    (ap (λ n. words_from e.n n texts) (length-map references (λ (b : Bor (List ℕ)). b.now)) ∙ second)
-    ∙ bind-at (coset_count basis representatives) _ tt count
+pub returns-in_err-representatives : goal.returns-in_err-representatives
+returns-in_err-representatives c =
+    let e = c.args.entry in
+    let texts = texts_behind c.args.texts.now in
+    let fault = c.in_err-representatives.field-0.0 in
+    let p = err_from_is_err_and c.from_residual-in_err-representatives.result c.from_residual-in_err-representatives.ensures.1 in
+    handed_on (λ (evidence : Evidence). evidence) c.from_residual-in_err-representatives.result
+    (cosets_of_texts e (texts_behind c.args.basis_texts.now) texts) p.0 fault p.1 p.2
+    (λ other. cosets-no_word e c.args.basis_texts.now texts c.in_ok-basis.basis.items c.in_ok-basis.ensures fault (c.in_err-representatives.ensures other))
+
+pub returns-in_err-coset_count : goal.returns-in_err-coset_count
+returns-in_err-coset_count c =
+    let e = c.args.entry in
+    let texts = texts_behind c.args.texts.now in
+    let fault = c.in_err-coset_count.field-0.0 in
+    let p = err_from_is_err_and c.from_residual-in_err-coset_count.result c.from_residual-in_err-coset_count.ensures.1 in
+    handed_on (λ (evidence : Evidence). evidence) c.from_residual-in_err-coset_count.result
+    (cosets_of_texts e (texts_behind c.args.basis_texts.now) texts) p.0 fault p.1 p.2
+    (λ other. cosets-miscounted e c.args.basis_texts.now texts c.in_ok-basis.basis.items c.in_ok-basis.ensures c.in_ok-representatives.representatives.items
+    fault c.in_ok-representatives.ensures
+    (sym (ap₂ coset_count c.deref.ensures.value c.deref-2.ensures.value) ∙ sym c.in_err-coset_count.ensures))
 
 pub returns : goal.returns
 returns c =
-    read c.args.entry c.args.basis_texts.now (texts_behind c.args.texts.now) c.in_ok-basis.basis.items c.in_ok-representatives.representatives.items
-    c.in_ok-basis.ensures c.in_ok-representatives.ensures
+    cosets-read c.args.entry c.args.basis_texts.now (texts_behind c.args.texts.now) c.in_ok-basis.basis.items c.in_ok-basis.ensures
+    c.in_ok-representatives.representatives.items c.in_ok-representatives.ensures
     (sym (ap₂ coset_count c.deref.ensures.value c.deref-2.ensures.value) ∙ sym c.in_ok-coset_count.ensures)
     ∙ ap₂ (λ basis representatives. Ok (Cosets c.args.entry basis representatives)) (sym c.from_vec-basis.ensures) (sym c.from_vec-representatives.ensures)

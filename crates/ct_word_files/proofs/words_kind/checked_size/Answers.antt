@@ -14,3 +14,6 @@ overflow_cast-result c =
 
 pub returns-clause-size : goal.returns-clause-size
 returns-clause-size c = ap length c.words.ensures.value ∙ length_permutation _ _ c.in_ok-code.ensures.words
+
+pub check_words-requires-clause-words : goal.check_words-requires-clause-words
+check_words-requires-clause-words c = c.requires.words
