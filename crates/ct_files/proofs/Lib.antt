@@ -1,3 +1,6 @@
+mod AtEvidence
+mod PutTexts
+mod ReadSteps
 mod DualEvidence
 pub mod DocumentAnswers
 pub mod Evidences

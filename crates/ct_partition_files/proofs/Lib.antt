@@ -1,5 +1,7 @@
 mod ListLemmas
 mod ReadClasses
+mod EvidenceSteps
+mod PlaceLemmas
 pub mod CountLemmas
 mod PairLemmas
 mod WrittenLists

@@ -68,6 +68,10 @@ on_second : (P : ℕ → Type 0) (xs ys : List ℕ) → AllByRecursion P (xs ++ 
 on_second P [] ys each = each
 on_second P (x ∷ xs) ys (first, rest) = on_second P xs ys rest
 
+-- what is read is one
+ok-same : {X : Type 0} (x y : X) → ◌≡◌ {A = Result X DocumentFault} (Ok x) (Ok y) → x ≡ y
+ok-same x y same = cc
+
 -- the texts that are read are those of the words of the classes
 pub classes_from-ok : (n place : ℕ) (lists : List (List (List ℕ))) (classes : List (List ℕ)) → classes_from n place lists ≡ Ok classes
     → (lists ≡ class_texts n classes) × AllByRecursion (λ x. x < 2 ^ n) (words_of_classes classes)
@@ -75,7 +79,7 @@ classes_from-ok n place [] classes e = let same : [] ≡ classes = cc in rw (←
 classes_from-ok n place (texts ∷ lists) classes e =
     let (words, words-are, more) = bind-ok (words_from n place texts) _ classes e in
     let (rest, rest-are, all) = bind-ok (classes_from n (place + length texts) lists) _ classes more in
-    let same : words ∷ rest ≡ classes = cc in
+    let same = ok-same (words ∷ rest) classes all in
     let first = words_from-ok n place texts words words-are in
     let after = classes_from-ok n (place + length texts) lists rest rest-are in
     let P : List (List ℕ) → Type 0 = λ cs. (texts ∷ lists ≡ class_texts n cs) × AllByRecursion (λ x. x < 2 ^ n) (words_of_classes cs) in

@@ -1,4 +1,6 @@
-use Rattle.std.proofs.Common.{ℕ, List, length, Some, refl, sym, subst}
+use Rattle.std.proofs.Common.{◌≡◌, ℕ, suc, ◌^◌, ◌<◌, ◌≤◌, List, length, Some, None, refl, sym, subst}
+use Rattle.std.specs.Prelude.{All}
+use Rattle.ct_words.specs.declared.limits.TheConstants.{MAX_N}
 use Rattle.ct_words.specs.Check.{code_fault}
 use Rattle.ct_words.specs.Coset.{coset_fault, coset_list}
 use Rattle.ct_words.specs.Numbers.{numbers_of}
@@ -13,6 +15,7 @@ use Rattle.ct_partitions.specs.Check.{partition_fault}
 use Rattle.ct_classes.specs.Partition.{words_of_classes}
 use Rattle.ct_files.specs.Checked.{IsCheck}
 use Rattle.ct_rule_parts.specs.declared.support.Support.TheVariants.{Nothing}
+use Rattle.ct_files.proofs.AtEvidence.{sound-at}
 use Rattle.ct_files.proofs.Checking.{check-sized, check-counted, check-dual}
 use Rattle.ct_files.proofs.checked.check_listed.Goals as goal
 
@@ -108,3 +111,63 @@ returns-in-JohnsonLocal g c =
     let said = c.check_local.ensures in
     subst (λ (evidence : Evidence). IsCheck known evidence r) (sym c.in-JohnsonLocal.is)
     (check-dual known (JohnsonLocal d) (local_support why d) fault.Dual why c.check_local.result r c.of_dual-in-JohnsonLocal.ensures refl refl refl said.support said.accepted said.fault)
+
+pub check-size-requires-clause-words : goal.check-size-requires-clause-words
+check-size-requires-clause-words g c =
+    let sound = sound-at c.args.evidence.now (Words c.in-Words.entry c.in-Words.words) c.in-Words.is c.requires.sound in
+    subst (λ (xs : List ℕ). All (λ x. x < 2 ^ c.in-Words.entry.n) xs) (sym c.as_slice.ensures) sound.1
+
+pub check-size-requires-in-Cosets-clause-basis : goal.check-size-requires-in-Cosets-clause-basis
+check-size-requires-in-Cosets-clause-basis g c =
+    let sound =
+    sound-at c.args.evidence.now (Cosets c.in-Cosets.entry c.in-Cosets.basis c.in-Cosets.representatives) c.in-Cosets.is c.requires.sound in
+    subst (λ (xs : List ℕ). All (λ x. x < 2 ^ c.in-Cosets.entry.n) xs) (sym c.as_slice-in-Cosets.ensures) sound.2
+
+pub check-size-requires-in-Cosets-clause-representatives : goal.check-size-requires-in-Cosets-clause-representatives
+check-size-requires-in-Cosets-clause-representatives g c =
+    let sound =
+    sound-at c.args.evidence.now (Cosets c.in-Cosets.entry c.in-Cosets.basis c.in-Cosets.representatives) c.in-Cosets.is c.requires.sound in
+    subst (λ (xs : List ℕ). All (λ x. x < 2 ^ c.in-Cosets.entry.n) xs) (sym c.as_slice-representatives.ensures) sound.3
+
+pub check-count-requires-clause-some : goal.check-count-requires-clause-some
+check-count-requires-clause-some g c =
+    (sound-at c.args.evidence.now (Partition c.in-Partition.entry c.in-Partition.between c.in-Partition.classes) c.in-Partition.is c.requires.sound).1
+
+pub check-count-requires-clause-nearer : goal.check-count-requires-clause-nearer
+check-count-requires-clause-nearer g c =
+    (sound-at c.args.evidence.now (Partition c.in-Partition.entry c.in-Partition.between c.in-Partition.classes) c.in-Partition.is c.requires.sound).2
+
+pub check-count-requires-clause-words : goal.check-count-requires-clause-words
+check-count-requires-clause-words g c =
+    let sound =
+    sound-at c.args.evidence.now (Partition c.in-Partition.entry c.in-Partition.between c.in-Partition.classes) c.in-Partition.is c.requires.sound in
+    subst (λ (cs : List (List ℕ)). All (λ x. x < 2 ^ c.in-Partition.entry.n) (words_of_classes cs)) (sym c.as_slice-in-Partition.ensures) sound.3
+
+pub check-size-requires-in-Product-clause-some : goal.check-size-requires-in-Product-clause-some
+check-size-requires-in-Product-clause-some g c =
+    let sound = sound-at c.args.evidence.now (Product c.in-Product.entry c.in-Product.pairs) c.in-Product.is c.requires.sound in
+    subst (λ (ps : List Ids). 1 ≤ length ps) (sym c.as_slice-in-Product.ensures) sound.1
+
+pub check-size-requires-in-Product-clause-few : goal.check-size-requires-in-Product-clause-few
+check-size-requires-in-Product-clause-few g c =
+    let sound = sound-at c.args.evidence.now (Product c.in-Product.entry c.in-Product.pairs) c.in-Product.is c.requires.sound in
+    subst (λ (ps : List Ids). length ps ≤ suc MAX_N) (sym c.as_slice-in-Product.ensures) sound.2
+
+pub check-size-requires-in-Product-clause-weighted : goal.check-size-requires-in-Product-clause-weighted
+check-size-requires-in-Product-clause-weighted g c =
+    let sound = sound-at c.args.evidence.now (Product c.in-Product.entry c.in-Product.pairs) c.in-Product.is c.requires.sound in
+    subst (λ (ps : List Ids). c.in-Product.entry.w ≡ None → length ps ≡ 1) (sym c.as_slice-in-Product.ensures) sound.3
+
+pub check-requires : goal.check-requires
+check-requires g c = record { form = (sound-at c.args.evidence.now (Dual c.in-Dual.dual) c.in-Dual.is c.requires.sound).0 }
+
+pub check-requires-in-JohnsonDual : goal.check-requires-in-JohnsonDual
+check-requires-in-JohnsonDual g c =
+    record { form = (sound-at c.args.evidence.now (JohnsonDual c.in-JohnsonDual.dual) c.in-JohnsonDual.is c.requires.sound).0 }
+
+pub check_odd-requires : goal.check_odd-requires
+check_odd-requires g c = record { form = (sound-at c.args.evidence.now (Odd c.in-Odd.dual c.in-Odd.m) c.in-Odd.is c.requires.sound).0 }
+
+pub check_local-requires-clause-form : goal.check_local-requires-clause-form
+check_local-requires-clause-form g c =
+    (sound-at c.args.evidence.now (JohnsonLocal c.in-JohnsonLocal.dual) c.in-JohnsonLocal.is c.requires.sound).0

@@ -91,3 +91,6 @@ returns-in_default c =
     let found = c.in_ok-texts.ensures in
     read_none c.loop-value.lists.items c.args.values.now c.loop-value.value-index c.value-item.result c.loop-value-test.true c.value-item.is
     (sym (ap (option_map (λ (v : Texts). texts_behind v.items)) c.in_default.is) ∙ found) c.loop-value.invariant.0
+
+pub bounds-values-value-index : goal.bounds-values-value-index
+bounds-values-value-index c = c.loop-value-test.true

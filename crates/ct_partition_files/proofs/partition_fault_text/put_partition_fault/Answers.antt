@@ -1,5 +1,5 @@
-use Rattle.std.proofs.Common.{◌≡◌, ℕ, List, ◌++◌, append_assoc, codes, sym, ap, ◌∙◌}
-use Rattle.std.proofs.lemmas.Result.{on_ok_weaker}
+use Rattle.std.proofs.Common.{◌≡◌, ℕ, List, ◌++◌, append_assoc, codes, OnOk, sym, ap, subst, ◌∙◌}
+use Rattle.std.proofs.lemmas.Result.{IfOk-from_err, on_ok_weaker}
 use Rattle.ct_classes.specs.declared.fault.PartitionFault.{PartitionFault}
 use Rattle.ct_text.specs.Number.{spaced}
 use Rattle.ct_text.proofs.GrowingTexts.{puts-four}
@@ -34,3 +34,27 @@ returns-in_ok-put_numbered_pair-in-Close-2 c =
     (codes " need") (spaced x.need) first second third c.put_numbered-in-Close.new.text.items c.in_ok-put_numbered_pair-in-Close.ensures far
     c.in_ok-put_numbered_pair-in-Close-2.ensures (put ∙ ap (λ n. third ++ (codes " need" ++ spaced n)) c.from-in-Close.ensures)
     ∙ ap (λ (f : PartitionFault). text ++ partition_fault_text f) (sym x.is)) c.put_numbered-in-Close.ensures
+
+pub returns-in-Size : goal.returns-in-Size
+returns-in-Size c =
+    subst (λ (f : PartitionFault). OnOk c.put_numbered.result (c.put_numbered.new.text.items ≡ c.args.text.now.items ++ partition_fault_text f))
+    (sym c.in-Size.is) c.put_numbered.ensures
+
+pub returns-in-Weight : goal.returns-in-Weight
+returns-in-Weight c =
+    subst (λ (f : PartitionFault).
+    OnOk c.put_numbered-in-Weight.result (c.put_numbered-in-Weight.new.text.items ≡ c.args.text.now.items ++ partition_fault_text f)) (sym c.in-Weight.is)
+    c.put_numbered-in-Weight.ensures
+
+pub returns-in-Repeated : goal.returns-in-Repeated
+returns-in-Repeated c =
+    subst (λ (f : PartitionFault). OnOk c.put_numbered_pair.result (c.put_numbered_pair.new.text.items ≡ c.args.text.now.items ++ partition_fault_text f))
+    (sym c.in-Repeated.is) c.put_numbered_pair.ensures
+
+pub returns-in_err-put_spaced-in-Close : goal.returns-in_err-put_spaced-in-Close
+returns-in_err-put_spaced-in-Close c =
+    IfOk-from_err c.from_residual-in_err-put_spaced-in-Close.result _ c.from_residual-in_err-put_spaced-in-Close.ensures.0
+
+pub returns-in_err-put_numbered_pair-in-Close-2 : goal.returns-in_err-put_numbered_pair-in-Close-2
+returns-in_err-put_numbered_pair-in-Close-2 c =
+    IfOk-from_err c.from_residual-in_err-put_numbered_pair-in-Close-2.result _ c.from_residual-in_err-put_numbered_pair-in-Close-2.ensures.0

@@ -61,3 +61,6 @@ returns-clause-fault g c =
     let reason = late-reason known c.args.entry pairs none.0 none.1
     ∙ ap (λ (fs : List Factors). short_of c.args.entry (product_distance fs)) (sym c.in_ok-named.ensures.factors) in
     IfErr-weaker c.sized.result _ _ (λ (f : SubmitFault) is other. reason ∙ is) c.sized.ensures.fault
+
+pub sized-requires-clause-places : goal.sized-requires-clause-places
+sized-requires-clause-places g c = c.in_ok-named.ensures.places

@@ -40,3 +40,6 @@ returns g c =
     code_at_answer c.args.entry (product (factors_named known c.args.pairs.now)) answer (IfOk-weaker answer _ _ (λ (code : CodeValue) h. h.0) given.entry)
     (IfOk-weaker answer _ _ (λ (code : CodeValue) h. h.1) given.entry) (IfOk-weaker answer _ _ (λ (code : CodeValue) h. h.2) given.entry)
     (IfOk-weaker answer _ _ (λ (code : CodeValue) h. subst (λ (fs : List Factors). IsPermutation (product fs) code.words) c.in_ok-named.ensures.factors h) given.words) given.sound
+
+pub listed-requires-clause-places : goal.listed-requires-clause-places
+listed-requires-clause-places g c = c.in_ok-named.ensures.places

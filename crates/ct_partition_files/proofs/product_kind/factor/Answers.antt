@@ -1,14 +1,19 @@
-use Rattle.std.proofs.Common.{Option, Some, sym, ap, subst, ◌∙◌}
+use Rattle.std.proofs.Common.{◌≡◌, Option, Some, None, sym, ap, subst, ◌∙◌}
 use Rattle.std.specs.Prelude.{IfSome, IsSome}
 use Rattle.std.proofs.lemmas.Result.{IfOk-weaker}
 use Rattle.ct_classes.specs.Partition.{PartitionValue, IsSoundPartition}
+use Rattle.ct_kind.specs.Named.{partition_named}
 use Rattle.ct_kind.proofs.NamedLemmas.{partition-sound}
 use Rattle.ct_partition_files.proofs.product_kind.factor.Goals as goal
 
+-- where something is known to be there, it is not missing
+there-not_none : {X : Type 0} (o : Option X) → IsSome o → o ≡ None → ⊥
+there-not_none None there none = absurd cc
+there-not_none (Some x) there none = absurd cc
+
 pub unreachable-requires : goal.unreachable-requires
 unreachable-requires g c =
-    let never = subst IsSome (sym c.partition.ensures ∙ c.in_default.is) c.requires.there in
-    cc
+    there-not_none (partition_named c.args.id (g.P.Partitions.known c.args.pieces.now)) c.requires.there (sym c.partition.ensures ∙ c.in_default.is)
 
 pub copied-requires : goal.copied-requires
 copied-requires g c =

@@ -40,3 +40,9 @@ returns c =
     (all_pushed view (texts_of_class c.args.n) c.loop-class.values.items c.args.classes.now c.loop-class.class-index c.loop-class-test.false
     c.loop-class.invariant.0
     ∙ texts_of_classes c.args.n c.args.classes.now)
+
+pub word_values-requires-clause-room : goal.word_values-requires-clause-room
+word_values-requires-clause-room c = c.requires.room
+
+pub bounds-classes-class-index : goal.bounds-classes-class-index
+bounds-classes-class-index c = c.loop-class-test.true

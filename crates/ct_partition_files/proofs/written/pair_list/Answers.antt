@@ -48,3 +48,6 @@ returns-clause-list c =
 pub returns-clause-ids : goal.returns-clause-ids
 returns-clause-ids c =
     subst (All AreIds) (take_all c.loop-first.first-index c.args.pairs.now c.loop-first-test.false) c.loop-first.invariant.1
+
+pub bounds-pairs-first-index : goal.bounds-pairs-first-index
+bounds-pairs-first-index c = c.loop-first-test.true

@@ -9,3 +9,6 @@ pub returns-clause-table : goal.returns-clause-table
 returns-clause-table c =
     c.in_ok-put_product.ensures.table
     ∙ ap (λ (ms : Members). put name.Pairs (pair_list c.args.pairs.now) (put_weight c.args.entry.w ms)) c.in_ok-table.ensures
+
+pub returns-clause-ids : goal.returns-clause-ids
+returns-clause-ids c = c.in_ok-put_product.ensures.ids
