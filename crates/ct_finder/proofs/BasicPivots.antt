@@ -1,8 +1,8 @@
 -- A pivot keeps that what solves the rows solves the opening rows, and that each row has its basic column to itself.
-use Rattle.std.proofs.Common.{◌≡◌, ◌≢◌, ℕ, ◌+◌, ◌<◌, ◌≤◌, ◌==◌, Bool, true, false, ◌&&◌, not, List, [], map, length, get_or, refl, sym, ap, ap₂, ◌∙◌, arith, subst, eqb-true}
-use Rattle.std.specs.Prelude.{zip, ℤ, pos, neg_ℤ, ◌-ℤ◌, ◌*ℤ◌, ◌≤ℤ◌, int_lt, int_le, nat_lt, ◌||◌, Some}
+use Rattle.std.proofs.Common.{◌≡◌, ◌≢◌, ℕ, zero, suc, ◌+◌, ◌<◌, ◌≤◌, ◌==◌, Bool, true, false, ◌&&◌, not, List, [], map, length, get_or, refl, sym, ap, ap₂, ◌∙◌, arith, subst, eqb-true}
+use Rattle.std.specs.Prelude.{zip, ℤ, pos, negsuc, neg_ℤ, ◌-ℤ◌, ◌*ℤ◌, ◌≤ℤ◌, int_lt, int_le, nat_lt, ◌||◌, Some}
 use Rattle.std.proofs.lemmas.Int.{ints}
-use Rattle.std.proofs.lemmas.Bool.{and_parts, eqb-false}
+use Rattle.std.proofs.lemmas.Bool.{false≢true, and_parts, eqb-false}
 use Rattle.std.proofs.lemmas.List.{length-map, length-set, get_or-map, get_or-set_same, get_or-set_other}
 use Rattle.std.proofs.lemmas.List.Elements.{All-get_or}
 use Rattle.std.proofs.lemmas.List.Folds.{list_all_at}
@@ -86,6 +86,17 @@ entry-entered e pivot row same =
     let pivot_on = int_mul_comm (at pivot e) (at row e) in
     int_cancel (divisor_at e pivot row) (at (pivoted_row e pivot row) e) (pos 0) (divisor_at-some e pivot row) (omega (arith, ints))
 
+-- a positive number is at least 0
+some-positive : (z : ℤ) → pos 1 ≤ℤ z → pos 0 ≤ℤ z
+some-positive z h = omega (arith, ints)
+
+-- a product less another that is no greater, and one less another that is at most 0
+difference-some : (a b c d : ℤ) → a ≡ c → b ≡ d → d ≤ℤ c → pos 0 ≤ℤ (a -ℤ b)
+difference-some a b c d p q less = omega (arith, ints)
+
+sum-some : (a b c : ℤ) → pos 0 ≤ℤ a → pos 0 ≤ℤ c → c ≡ neg_ℤ b → pos 0 ≤ℤ (a -ℤ b)
+sum-some a b c some more is = omega (arith, ints)
+
 -- the constant of a row that does not come before the pivot row
 constant-kept : (e : ℕ) (pivot row : List ℤ) → length row ≡ length pivot → pos 1 ≤ℤ at pivot e → pos 0 ≤ℤ constant_of pivot → pos 0 ≤ℤ constant_of row
     → (pos 1 ≤ℤ at row e → (constant_of pivot *ℤ at row e) ≤ℤ (constant_of row *ℤ at pivot e)) → pos 0 ≤ℤ constant_of (pivoted_row e pivot row)
@@ -95,7 +106,9 @@ constant-kept e pivot row same positive base some first =
     (subst (λ z. pos 0 ≤ℤ z) (sym whole) (go (int_lt (pos 0) (at row e)) refl))
   where
     above : (z : ℤ) → int_lt (pos 0) z ≡ true → pos 1 ≤ℤ z
-    above z h = grind (arith, ints)
+    above (pos zero) h = absurd (false≢true h)
+    above (pos (suc n)) h = omega (arith, ints)
+    above (negsuc n) h = absurd (false≢true h)
 
     below : (z : ℤ) → int_lt (pos 0) z ≡ false → pos 0 ≤ℤ neg_ℤ z
     below z h = grind (arith, ints)
@@ -103,14 +116,12 @@ constant-kept e pivot row same positive base some first =
     go : (t : Bool) → int_lt (pos 0) (at row e) ≡ t → pos 0 ≤ℤ ((at pivot e *ℤ constant_of row) -ℤ (at row e *ℤ constant_of pivot))
     go true is =
         let less = first (above (at row e) is) in
-        let a = int_mul_comm (at pivot e) (constant_of row) in
-        let b = int_mul_comm (at row e) (constant_of pivot) in
-        omega (arith, ints)
+        difference-some (at pivot e *ℤ constant_of row) (at row e *ℤ constant_of pivot) (constant_of row *ℤ at pivot e) (constant_of pivot *ℤ at row e)
+        (int_mul_comm (at pivot e) (constant_of row)) (int_mul_comm (at row e) (constant_of pivot)) less
     go false is =
-        let a = product-nonneg (at pivot e) (constant_of row) (omega (arith, ints)) some in
-        let b = product-nonneg (neg_ℤ (at row e)) (constant_of pivot) (below (at row e) is) base in
-        let c = int_neg_mul (at row e) (constant_of pivot) in
-        omega (arith, ints)
+        sum-some (at pivot e *ℤ constant_of row) (at row e *ℤ constant_of pivot) (neg_ℤ (at row e) *ℤ constant_of pivot)
+        (product-nonneg (at pivot e) (constant_of row) (some-positive (at pivot e) positive) some)
+        (product-nonneg (neg_ℤ (at row e)) (constant_of pivot) (below (at row e) is) base) (int_neg_mul (at row e) (constant_of pivot))
 
 -- no candidate comes before the pivot row
 pub pivot_row-first : (e i k : ℕ) (t : Tableau) → length t.basics ≡ length t.rows → pivot_row e t ≡ Some i → k < length t.rows → pos 1 ≤ℤ at (row_at t k) e

@@ -1,6 +1,8 @@
 -- What is found from the end of a run.
 use Rattle.std.proofs.Common.{◌≡◌, ℕ, suc, Bool, false, ◌≤◌, List, [], length, replicate, refl, sym, ap, ◌∙◌, subst}
 use Rattle.std.specs.Prelude.{ℤ, pos, Option, Some, None, unwrap_or}
+use Rattle.std.proofs.lemmas.Bool.{false≢true}
+use Rattle.std.proofs.lemmas.Option.{none-some, same_Some}
 use Rattle.ct_words.specs.declared.entry.Entry.{Entry}
 use Rattle.ct_words.specs.Entry.{IsEntry, unrestricted, constant_weight}
 use Rattle.ct_primal.specs.Primal.{PrimalValue}
@@ -138,7 +140,13 @@ pub record IsWeightedFound (e : Entry) (pivots : ℕ) (c : List ℤ) (stop : Sto
 
 -- an entry with a weight is one that may be asked for
 pub asked-weighted : (n d w : ℕ) → IsEntry (constant_weight n d w) → IsAsked (constant_weight n d w) false
-asked-weighted n d w entry = record { entry = entry; even_distance = (λ h. absurd cc); weighted = refl }
+asked-weighted n d w entry = record { entry = entry; even_distance = (λ h. absurd (false≢true h)); weighted = refl }
+
+-- the tableau of an end as least, another one elsewhere
+abbrev tableau_of : Tableau → End → Tableau
+tableau_of other (LeastEnd t) = t
+tableau_of other TurnsEnd = other
+tableau_of other (WideEnd x) = other
 
 weighted-at : (n d w pivots : ℕ) → IsEntry (constant_weight n d w) → (end : End) → end_of_run (constant_weight n d w) false pivots ≡ end → (c : List ℤ) (stop : Stop)
     → Some c ≡ multipliers_from (ending_of (constant_weight n d w) false (range_of (constant_weight n d w) false) (degree_of (constant_weight n d w)) end)
@@ -147,11 +155,12 @@ weighted-at : (n d w pivots : ℕ) → IsEntry (constant_weight n d w) → (end 
 weighted-at n d w pivots entry (LeastEnd t) is c stop c_is stop_is =
     let e = constant_weight n d w in
     let asked = asked-weighted n d w entry in
-    let same : c ≡ multipliers_of (columns_of e false) (degree_of e) t.cost = cc in
+    let same : c ≡ multipliers_of (columns_of e false) (degree_of e) t.cost =
+    same_Some c (multipliers_of (columns_of e false) (degree_of e) t.cost) c_is in
     let dual_is : with_multipliers e false c ≡ run_dual e false t.cost = ap (with_multipliers e false) same in
     let least = least-of (numbers_of e) e false pivots t is in
     let read : (u : Tableau) → LeastEnd t ≡ LeastEnd u → with_multipliers e false c ≡ run_dual e false u.cost = λ u h.
-    let last : t ≡ u = cc in dual_is ∙ ap (λ v. run_dual e false v.cost) last in
+    let last : t ≡ u = ap (tableau_of t) h in dual_is ∙ ap (λ v. run_dual e false v.cost) last in
     record {
       dual = ap Some dual_is ∙ ap (least_dual e) (sym is);
       stop_is = stop_is ∙ ap (stop_of e false pivots) (sym is);
@@ -159,8 +168,8 @@ weighted-at n d w pivots entry (LeastEnd t) is c stop c_is stop_is =
       form = subst IsDual (sym dual_is) (dual-form (numbers_of e) e false t asked least (narrow-of (numbers_of e) e false pivots t is));
       accepted = subst (λ t. dual_fault (numbers_of e) t ≡ None) (sym dual_is) (dual-accepted (numbers_of e) e false t (numbers-first e) least);
     }
-weighted-at n d w pivots entry TurnsEnd is c stop c_is stop_is = absurd cc
-weighted-at n d w pivots entry (WideEnd x) is c stop c_is stop_is = absurd cc
+weighted-at n d w pivots entry TurnsEnd is c stop c_is stop_is = absurd (none-some c (sym c_is))
+weighted-at n d w pivots entry (WideEnd x) is c stop c_is stop_is = absurd (none-some c (sym c_is))
 
 pub weighted-found : (n d w pivots : ℕ) (range : List ℕ) (ending : Ending) (c : List ℤ) (stop : Stop) → IsEntry (constant_weight n d w)
     → range ≡ range_of (constant_weight n d w) false → ending ≡ ending_at (constant_weight n d w) false range pivots
@@ -173,7 +182,7 @@ weighted-found n d w pivots range ending c stop entry range_is ending_is c_is st
 
 -- and where it does not
 weighted-none_at : (e : Entry) (end : End) → None ≡ multipliers_from (ending_of e false (range_of e false) (degree_of e) end) → None ≡ least_dual e end
-weighted-none_at e (LeastEnd t) is = absurd cc
+weighted-none_at e (LeastEnd t) is = absurd (none-some (multipliers_of (columns_of e false) (degree_of e) t.cost) is)
 weighted-none_at e TurnsEnd is = refl
 weighted-none_at e (WideEnd x) is = refl
 

@@ -126,3 +126,7 @@ pub least-solved : (number : ℕ → ℕ → ℤ) (range : List ℕ) (degree piv
 least-solved number range degree pivots last some is =
     (end-of_run (IsSolved number range degree) (columns range degree) (solved-narrow number range degree) pivots (opening number range degree) last
     (solved-opening number range degree some) is).kept
+
+-- two numbers, neither of which is more than the other
+pub same_number : (n m : ℕ) → n ≤ m → m ≤ n → n ≡ m
+same_number n m no_more no_less = omega arith

@@ -1,11 +1,13 @@
 -- The primal of a tableau, read row by row.
-use Rattle.std.proofs.Common.{◌≡◌, ℕ, zero, suc, ◌+◌, ◌*◌, ◌/◌, ◌<◌, ◌≤◌, ◌^◌, ◌==◌, Bool, true, false, ◌&&◌, cond, nat_le, List, [], ◌∷◌, ◌++◌, map, length, get_or, take, refl, sym, ap, ap₂, ◌∙◌, arith, subst, eqb-true}
+use Rattle.std.proofs.Common.{◌≡◌, ℕ, zero, suc, ◌+◌, ◌-◌, ◌*◌, ◌/◌, ◌<◌, ◌≤◌, ◌^◌, ◌==◌, Bool, true, false, ◌&&◌, cond, nat_le, List, [], ◌∷◌, ◌++◌, map, length, get_or, take, refl, sym, ap, ap₂, ◌∙◌, arith, subst, eqb-true, mul-le-mul_right}
 use Rattle.std.specs.Prelude.{All, filter, find, zip, ℤ, pos, ◌<ℤ◌, int_lt, Option, Some, None, option_map}
 use Rattle.std.specs.List.{AllByRecursion, range_with_len}
+use Rattle.std.proofs.lemmas.Bool.{false≢true, le-leb}
 use Rattle.std.proofs.lemmas.Int.{ints}
 use Rattle.std.proofs.Math.Nat.{div-mul_cancel}
 use Rattle.std.proofs.lemmas.List.{length-map, get_or-map, take_more, take_all}
 use Rattle.std.proofs.lemmas.List.FromFn.{length-range_with_len, get_or-range_with_len}
+use Rattle.std.proofs.lemmas.Option.{none-some}
 use Rattle.std.proofs.lemmas.Slice.Zip.{length-zip, get_or-zip}
 use Rattle.ct_finder.specs.Basic.{row_at, basic_at}
 use Rattle.ct_finder.proofs.Divisors.{gcd-is}
@@ -156,19 +158,20 @@ number-narrow count q (l ∷ ls) none place low high = go (l.1 == place) refl (i
     rest : List (List ℤ × ℕ)
     rest = of_a count ls
 
-    le_is : (x y : ℕ) → x ≤ y → nat_le x y ≡ true
-    le_is x y p = grind arith
-
     is_narrow : (w : Bool) → is_large (scaled q l) ≡ w → cond w (Some (scaled q l)) (find is_large (map (scaled q) rest)) ≡ None
         → (is_large (scaled q l) ≡ false) × (find is_large (map (scaled q) rest) ≡ None)
-    is_narrow true is h = absurd cc
+    is_narrow true is h = absurd (none-some (scaled q l) (sym h))
     is_narrow false is h = (is, h)
 
     go : (s : Bool) → (l.1 == place) ≡ s → (b : Bool) → is_of_a count l ≡ b → find is_large (map (scaled q) (cond b (l ∷ rest) rest)) ≡ None
         → (find is_large (map (scaled q) rest) ≡ None → is_large (number_at_place q ls place) ≡ false)
         → is_large (cond s (scaled q l) (number_at_place q ls place)) ≡ false
     go true same true of h ih = (is_narrow (is_large (scaled q l)) refl h).0
-    go true same false of h ih = absurd (let here : is_of_a count l ≡ true = subst (λ p. (nat_le 1 p && nat_le p count) ≡ true) (sym (eqb-true l.1 place same)) (ap₂ (λ a b. a && b) (le_is 1 place low) (le_is place count high)) in let both = sym of ∙ here in cc)
+    go true same false of h ih =
+        let here : is_of_a count l ≡ true =
+        subst (λ p. (nat_le 1 p && nat_le p count) ≡ true) (sym (eqb-true l.1 place same))
+        (ap₂ (λ a b. a && b) (le-leb 1 place low) (le-leb place count high)) in
+        absurd (false≢true (sym of ∙ here))
     go false other true of h ih = ih (is_narrow (is_large (scaled q l)) refl h).1
     go false other false of h ih = ih h
 
@@ -273,3 +276,10 @@ pub pairs-all : (range : List ℕ) (t : Tableau) (j : ℕ) → length range ≤ 
 pairs-all range t j all =
     let count = pairs-count range t in
     ap (filter (λ (u : ℕ × ℤ). int_lt (pos 0) u.1)) (take_all j (numbers_of_range range t) (omega arith))
+
+-- a product of numbers below 2^63
+pub product_small : (a b c : ℕ) → a ≤ c → c < 2 ^ 63 → b < 2 ^ 63 → a * b < 2 ^ 126
+product_small a b c least small other =
+    let first : a ≤ 2 ^ 63 - 1 = omega arith in
+    let whole = mul-le-mul_right {m = a} {n = 2 ^ 63 - 1} b first in
+    omega (arith, whole, other)

@@ -1,8 +1,9 @@
 -- What is known where a rule is defined: its premises, its value, the support that it names.
-use Rattle.std.proofs.Common.{◌≡◌, ℕ, zero, suc, ◌≤◌, List, [], ◌∷◌, All, option_map, refl, sym, ap, subst, ◌∙◌, arith, leb-true, le-leb}
+use Rattle.std.proofs.Common.{◌≡◌, ℕ, zero, suc, ◌≤◌, List, [], ◌∷◌, length, All, option_map, refl, sym, ap, subst, ◌∙◌, arith, leb-true, le-leb}
 use Rattle.std.specs.Prelude.{Bool, true, false, ◌&&◌, if◌then◌else◌, nat_le, min, slice_get, Option, Some, None, IsSome}
 use Rattle.std.specs.Option.{ForSome}
-use Rattle.std.proofs.lemmas.Bool.{and_parts}
+use Rattle.std.proofs.lemmas.Bool.{and_parts, false≢true}
+use Rattle.std.proofs.lemmas.List.{length-map}
 use Rattle.std.proofs.lemmas.List.Elements.{All-nil, All-cons}
 use Rattle.std.proofs.lemmas.Option.{cond_some, none-some, same_Some, slice_get_within, slice_get-map, get_or_from_slice_get}
 use Rattle.ct_words.specs.declared.limits.TheConstants.{MAX_BOUND}
@@ -17,7 +18,7 @@ use Rattle.ct_rule_parts.specs.Entries.{listed}
 use Rattle.ct_rule_parts.specs.Slot.{Slot}
 use Rattle.ct_rule_parts.specs.Support.{Stands, AllStand}
 use Rattle.ct_rules.specs.declared.rule.Rule.{Rule}
-use Rattle.ct_rules.specs.Rule.{rule_side, place_of, support_at, cited, parts_over, applies, premises_at, premises_of, premise_of, value_of}
+use Rattle.ct_rules.specs.Rule.{rule_side, place_of, support_at, cited, parts_over, applies, premises_at, premises_of, count_of, premise_of, value_of}
 
 -- a rule of these parts is defined at the entry
 pub record IsDefined (p : RuleParts) (e : Entry) : Type 0 where
@@ -92,7 +93,7 @@ value-premises supports r e vs some = go (applies supports r e) some
     go : (b : Bool) → IsSome (if b then within_limit (rule_side r) ((parts_over supports r).number e vs) else None)
         → IsSome (if b then Some (premises_at supports r e) else None)
     go true h = refl
-    go false h = absurd cc
+    go false h = absurd (false≢true h)
 
 -- where it applies its value is its number within the limits
 pub value_where_applies : (supports : List Support) (r : Rule) (e : Entry) (vs : List ℕ) → applies supports r e ≡ true
@@ -158,3 +159,19 @@ premise-given supports r e j f defined at =
     let on : Entry → Slot = λ g. (rule_side r, g) in
     ap (λ (b : Bool). if b then slice_get (premises_at supports r e) j else None) defined
     ∙ slice_get-map on ((parts_over supports r).rests_on e) j ∙ ap (option_map on) at
+
+-- none where it rests on no entry at the place
+pub premise-none : (supports : List Support) (r : Rule) (e : Entry) (j : ℕ) → applies supports r e ≡ true
+    → slice_get ((parts_over supports r).rests_on e) j ≡ None → premise_of supports r e j ≡ None
+premise-none supports r e j defined at =
+    let on : Entry → Slot = λ g. (rule_side r, g) in
+    ap (λ (b : Bool). if b then slice_get (premises_at supports r e) j else None) defined
+    ∙ slice_get-map on ((parts_over supports r).rests_on e) j ∙ ap (option_map on) at
+
+-- as many premises as it rests on entries
+pub count-given : (supports : List Support) (r : Rule) (e : Entry) → applies supports r e ≡ true
+    → count_of supports r e ≡ Some (length ((parts_over supports r).rests_on e))
+count-given supports r e defined =
+    let on : Entry → Slot = λ g. (rule_side r, g) in
+    ap (λ (b : Bool). if b then Some (length (premises_at supports r e)) else None) defined
+    ∙ ap Some (length-map ((parts_over supports r).rests_on e) on)

@@ -10,12 +10,12 @@ use Rattle.ct_rule_parts.specs.Support.{Stands, AllStand}
 use Rattle.ct_rules.specs.Derivation.{LineValue, IsBest}
 use Rattle.ct_rules.proofs.MoreSupports.{derivation_over_more}
 use Rattle.ct_table.specs.Closing.{ClosingValue, IsClosing}
-use Rattle.ct_kept.specs.Kept.{KeptValue, BaseValue, IsKept, IsBase, reason_of}
+use Rattle.ct_kept.specs.Kept.{KeptValue, BaseValue, IsKept, IsBase, Grew, reason_of}
 use Rattle.ct_slots.specs.Number.{bound_of}
 use Rattle.ct_slots.specs.Worklist.{WorkValue, IsIdle}
 use Rattle.ct_kept.proofs.LineLemmas.{kept_in}
 use Rattle.ct_table.specs.Inside.Starting.{CanFollow}
-use Rattle.ct_table.specs.Table.{IsTable, IsShownTable, table_of}
+use Rattle.ct_table.specs.Table.{IsTable, IsShownTable, table_of, Grew as HasGrown}
 use Rattle.ct_table.proofs.BaseLemmas.{base_count, IsBase-again}
 use Rattle.ct_table.proofs.TableLemmas.{bounds_are_true, bounds_are_best}
 
@@ -144,3 +144,7 @@ IsBase-begun kept begun base good is base_is =
     (subst (λ (b : BaseValue). IsBase b (kept_in kept.bounds kept.reasons kept.lines (length kept.lines))) (sym base_is)
     (subst (λ (ls : List LineValue). IsKept [] (kept_in kept.bounds kept.reasons ls (length kept.lines))) (sym whole)
     (IsKept-begun kept (kept_in kept.bounds kept.reasons kept.lines (length kept.lines)) good refl)))
+
+-- what callers see grows with what is kept
+pub Grew-table : (supports now : List Support) (old new : KeptValue) → Grew old new → HasGrown (table_of supports old) (table_of now new)
+Grew-table supports now old new grew = record { more = grew.more; same = grew.same }

@@ -2,6 +2,7 @@ pub mod TableLemmas
 mod UnnamedPlaces
 pub mod BaseLemmas
 pub mod MovedPlaces
+mod MovedLists
 pub mod WalkLemmas
 pub mod LeftLemmas
 pub mod LoweredKept

@@ -1,5 +1,5 @@
 -- The supports that have their places, and whose slots are marked.
-use Rattle.std.proofs.Common.{◌≡◌, ℕ, zero, suc, ◌+◌, ◌<◌, List, [], ◌∷◌, ◌++◌, length, map, take, All, get_or, Option, Some, option_map, slice_get, refl, sym, ap, subst, ◌∙◌, inl, inr, arith}
+use Rattle.std.proofs.Common.{◌≡◌, ℕ, zero, suc, ◌+◌, ◌<◌, ◌≤◌, List, [], ◌∷◌, ◌++◌, length, map, take, All, get_or, Option, Some, option_map, slice_get, refl, sym, ap, subst, ◌∙◌, inl, inr, arith, length-append}
 use Rattle.std.proofs.lemmas.List.{take_more, map-append, length-map}
 use Rattle.std.proofs.lemmas.List.Elements.{All-nil, All-cons, All-head, All-tail, All-append}
 use Rattle.std.proofs.lemmas.Option.{none-some, same_Some, slice_get-map, slice_get_within, get_or_from_slice_get}
@@ -106,3 +106,11 @@ pub last_is : (supports olds : List Support) (x d : Support) (place : ℕ) → s
     → get_or supports place d ≡ x
 last_is supports olds x d place are end =
     get_or_from_slice_get supports place x d (last_there supports olds x place are end)
+
+-- as many supports as before are no more than the places with one more
+pub fewer_supports : (supports now : List Support) (places more : List (Option Entry)) (e : Option Entry) → length places ≡ length supports
+    → now ≡ supports → more ≡ places ++ e ∷ [] → length now ≤ length more
+fewer_supports supports now places more e count same longer =
+    let few = ap length same in
+    let many = ap length longer ∙ length-append places (e ∷ []) in
+    omega (arith, few, many, count)

@@ -1,4 +1,4 @@
-use Rattle.std.proofs.Common.{rules, arith, ℕ, List, length, sym, ap, ap₂, ◌∙◌, subst}
+use Rattle.std.proofs.Common.{rules, ℕ, List, length, sym, ap, ap₂, ◌∙◌, subst}
 use Rattle.std.specs.Prelude.{ℤ}
 use Rattle.std.proofs.lemmas.List.{length-map}
 use Rattle.std.proofs.lemmas.Int.{to_z-of_z}
@@ -9,7 +9,7 @@ use Rattle.ct_finder.specs.Run.{run, multipliers_of}
 use Rattle.ct_finder.specs.Sum.{HasWidth}
 use Rattle.ct_finder.specs.Basic.{AreBasic}
 use Rattle.ct_finder.specs.Ready.{seen}
-use Rattle.ct_finder.specs.declared.ending.Ending.TheVariants.{Least}
+use Rattle.ct_finder.specs.declared.ending.Ending.TheVariants.{Least, Wide}
 use Rattle.ct_finder.specs.Ending.{ending_of}
 use Rattle.ct_finder.proofs.OpeningLemmas.{least-width, least-solved}
 use Rattle.ct_finder.proofs.ending.run_over.Goals as goal
@@ -83,5 +83,5 @@ returns g c =
     let opened = c.in_ok-tableau.ensures.value in
     let wide = ap (λ t. length t.cost) opened ∙ length-map cs cost_entry in
     let fits : SFits w128 c.in-Wide.entry = search rules in
-    let whole = ap (ending_of c.args.entry c.args.even range degree) (c.in-Wide.ensures.end range degree wide ∙ ap (run cs c.args.pivots) opened) in
-    first_of (cc whole, search (rules, whole), grind (arith, to_z-of_z, whole))
+    ap (λ (z : ℤ). Wide z) (to_z-of_z w128 c.in-Wide.entry fits)
+    ∙ ap (ending_of c.args.entry c.args.even range degree) (c.in-Wide.ensures.end range degree wide ∙ ap (run cs c.args.pivots) opened)

@@ -77,3 +77,12 @@ returns-clause-least c = λ p is.
     (c.deref.ensures.value ∙ c.in_ok-range.ensures) c.in_ok-ending.ensures (multipliers_is (replicate (suc c.args.n) (pos 1)) c.parts-multipliers.ensures.multipliers c.in_ok-c.ensures) c.parts-multipliers.ensures.stop in
     stop-least p c.found.result.stop c.found.result.dual
     (subst (λ (s : Stop). IsShown s c.found.result.dual) (sym c.found.ensures.stop) (subst (IsShown c.parts-multipliers.result.1) (sym c.found.ensures.dual) known.shown)) is
+
+pub returns-clause-true_upper : goal.returns-clause-true_upper
+returns-clause-true_upper c = c.found.ensures.true_upper
+
+pub returns-clause-entry : goal.returns-clause-entry
+returns-clause-entry c = ap (λ (t : Dual). t.entry) c.found.ensures.dual
+
+pub returns-clause-nothing_allowed : goal.returns-clause-nothing_allowed
+returns-clause-nothing_allowed c = ap (λ (t : Dual). t.y) c.found.ensures.dual

@@ -1,7 +1,9 @@
-use Rattle.std.proofs.Common.{◌≡◌, ℕ, suc, ◌+◌, List, [], ◌∷◌, ◌++◌, length, sym, ap₂, ◌∙◌, arith}
+use Rattle.std.proofs.Common.{◌≡◌, ℕ, suc, ◌+◌, List, [], ◌∷◌, ◌++◌, map, length, sym, ap, ap₂, ◌∙◌, arith}
+use Rattle.std.specs.List.{range_with_len}
 use Rattle.std.proofs.lemmas.List.FromFn.{map-range_with_len_more}
 use Rattle.ct_finder.specs.Column.{columns, place_of}
 use Rattle.ct_finder.specs.Column.Column.{S}
+use Rattle.ct_finder.proofs.OpeningLemmas.{same_number}
 use Rattle.ct_finder.proofs.Places.{place-s}
 use Rattle.ct_finder.proofs.opening.opening_basics.Goals as goal
 
@@ -14,3 +16,9 @@ loop-before-preserved c =
     let same : length range + 1 + before ≡ place (suc before) = omega arith in
     c.in_ok-push.ensures.items ∙ ap₂ (λ (bs : List ℕ) (b : ℕ). bs ++ b ∷ []) c.loop-before.invariant same
     ∙ sym (map-range_with_len_more place 1 before (suc before) (omega arith))
+
+pub returns : goal.returns
+returns c =
+    c.loop-before.invariant
+    ∙ ap (λ n. map (λ k. place_of (S k) (columns c.args.range.now c.args.degree)) (range_with_len 1 n))
+    (same_number c.loop-before.before c.args.degree c.loop-before.auto.before-end c.loop-before-test.false)

@@ -36,3 +36,6 @@ returns g c =
     (c.in_ok-push.ensures.items ∙ ap (λ (xs : List ℤ). xs ++ pos 0 ∷ []) c.in_ok-entries.ensures.items)
     c.in_ok-push_numbers.ensures c.in_ok-push_unit.ensures c.degree-2.ensures c.in_ok-push-2.ensures.items
     (to_z-of_z w64 c.number.result (record { sfits = c.number.type_inv }) ∙ c.number.ensures.value)
+
+pub push_numbers-requires-clause-range : goal.push_numbers-requires-clause-range
+push_numbers-requires-clause-range g c = c.requires.range

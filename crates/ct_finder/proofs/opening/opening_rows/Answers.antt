@@ -21,3 +21,6 @@ returns g c =
     let all : c.loop-before.before ≡ g.S.Scheme.degree s =
     omega (arith, c.loop-before-test.false, c.loop-before.auto, c.degree-before-end.ensures) in
     c.loop-before.invariant ∙ ap (λ n. map row (range_with_len 1 n)) all
+
+pub opening_row-requires-clause-range : goal.opening_row-requires-clause-range
+opening_row-requires-clause-range g c = c.requires.range

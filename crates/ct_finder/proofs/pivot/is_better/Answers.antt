@@ -66,3 +66,22 @@ returns-in-Some c =
     compared
     ∙ sym (ap (λ o. is_better c.args.e (zip rows basics) o c.args.i) c.in-Some.is
     ∙ ap (λ t. t && comes_before c.args.e (line_at (zip rows basics) c.args.i) (line_at (zip rows basics) b)) test)
+
+pub comes_before-requires-clause-place : goal.comes_before-requires-clause-place
+comes_before-requires-clause-place c =
+    subst (λ (r : List ℤ). c.args.e < length r) (sym (c.as_slice-row.ensures.value ∙ c.index-rows-i.is))
+    (c.requires.width c.args.i c.index-rows-i.result c.requires.place)
+
+pub comes_before-requires-clause-other : goal.comes_before-requires-clause-other
+comes_before-requires-clause-other c =
+    let inside : c.in-Some.b < length c.args.rows.now = subst (λ o. IfSome o (λ k. k < length c.args.rows.now)) c.in-Some.is c.requires.best in
+    subst (λ (r : List ℤ). c.args.e < length r) (sym (c.as_slice.ensures.value ∙ c.index-rows-b.is))
+    (c.requires.width c.in-Some.b c.index-rows-b.result inside)
+
+pub bounds-basics-b : goal.bounds-basics-b
+bounds-basics-b c =
+    let inside : c.in-Some.b < length c.args.rows.now = subst (λ o. IfSome o (λ k. k < length c.args.rows.now)) c.in-Some.is c.requires.best in
+    subst (λ n. c.in-Some.b < n) (sym c.requires.count) inside
+
+pub bounds-rows-b : goal.bounds-rows-b
+bounds-rows-b c = subst (λ o. IfSome o (λ k. k < length c.args.rows.now)) c.in-Some.is c.requires.best

@@ -26,3 +26,9 @@ returns c =
     ap (λ (q : ℤ). Primal (record { entry = c.args.entry; even = c.args.even; q = q; a = c.in_ok-a.a.items })) (to_z_pos w64 c.in-Ok.q (omega (arith, small)))
     ∙ reading-primal c.args.entry c.args.even c.args.range.now (seen c.args.tableau.now) c.in-Ok.q c.in_ok-a.a.items c.in-Ok.ensures.fault c.in-Ok.ensures.value
     c.in_default.ensures.value c.in_ok-a.ensures
+
+pub pairs-requires-clause-basic : goal.pairs-requires-clause-basic
+pairs-requires-clause-basic c = c.requires.basic
+
+pub large_number-requires-clause-basic : goal.large_number-requires-clause-basic
+large_number-requires-clause-basic c = c.requires.basic

@@ -1,6 +1,6 @@
 -- One more entry.
-use Rattle.std.proofs.Common.{rules, ◌≡◌, ◌-◌, ◌<◌, ◌^◌, true, false, length, get_or, map, sym, ap, ◌∙◌, arith, take_all}
-use Rattle.std.specs.Prelude.{ℤ, pos, ◌*ℤ◌, ◌-ℤ◌, int_div, find, Some, unsigned_abs}
+use Rattle.std.proofs.Common.{rules, ◌≡◌, ◌-◌, ◌<◌, ◌^◌, true, false, length, get_or, map, sym, ap, subst, ◌∙◌, arith, take_all}
+use Rattle.std.specs.Prelude.{ℤ, pos, ◌≤ℤ◌, ◌*ℤ◌, ◌-ℤ◌, int_div, find, Some, unsigned_abs}
 use Rattle.std.proofs.lemmas.Int.{to_z-of_z, fits_signed_from_abs}
 use Rattle.std.proofs.lemmas.Bool.{ltb-false}
 use Rattle.std.proofs.lemmas.List.{length-map, get_or-map}
@@ -112,3 +112,12 @@ returns-clause-row c = λ _.
     let none = simp to_z-of_z at c.loop-j.invariant.1 in
     let many : length targets ≡ length xs = length-map xs (λ (z : ℤ). int_div z c.args.divisor) in
     written-end targets row c.loop-j.row j (omega arith) (omega arith) was
+
+pub quotient-entry-requires : goal.quotient-entry-requires
+quotient-entry-requires c = subst (λ (z : ℤ). pos 1 ≤ℤ z) (sym (to_z-of_z w128 c.args.divisor c.ranges.divisor)) c.requires.divisor
+
+pub overflow_cast-row : goal.overflow_cast-row
+overflow_cast-row c =
+    let fits : SFits w128 c.quotient-entry.result = record { sfits = c.quotient-entry.type_inv } in
+    let same = to_z-of_z w128 c.quotient-entry.result fits in
+    subst (SFits w64) (sym same) (not_wide c.quotient-entry.result (ap is_wide (sym same) ∙ sym c.is_wide.ensures ∙ c.if-is_wide.false))

@@ -1,6 +1,8 @@
-use Rattle.std.proofs.Common.{◌≤◌, ap, sym, subst}
+use Rattle.std.proofs.Common.{◌≤◌, ap, sym, subst, ◌∙◌}
+use Rattle.std.proofs.lemmas.Bool.{false≢true}
 use Rattle.std.proofs.lemmas.Result.{IfOk-from_err}
 use Rattle.ct_kept.specs.Kept.{KeptValue, IsKept, Grew}
+use Rattle.ct_kept.proofs.KeptLemmas.{Grew-refl}
 use Rattle.ct_table.specs.Closing.{IsPending, HasMoreLines}
 use Rattle.ct_table.specs.Inside.Turn.{potential}
 use Rattle.ct_table.proofs.MoreLines.{HasMoreLines-refl}
@@ -98,3 +100,21 @@ returns-in_err-mark_from c =
       potential = IfOk-from_err result (λ _. potential kept.bounds work ≤ potential c.args.kept.now.bounds c.args.work.now) failed;
       lines = more (goal.at.returns-in_err-mark_from c).In_ok-improve;
     }
+
+pub returns-in_default-clause-grew : goal.returns-in_default-clause-grew
+returns-in_default-clause-grew c = Grew-refl c.args.kept.now
+
+pub returns-in_default-clause-lines : goal.returns-in_default-clause-lines
+returns-in_default-clause-lines c = HasMoreLines-refl c.args.kept.now
+
+pub returns-then-not-in_table-clause-grew : goal.returns-then-not-in_table-clause-grew
+returns-then-not-in_table-clause-grew c = Grew-refl c.args.kept.now
+
+pub returns-then-not-in_table-clause-lines : goal.returns-then-not-in_table-clause-lines
+returns-then-not-in_table-clause-lines c = HasMoreLines-refl c.args.kept.now
+
+pub returns-then-not-in_table-clause-pending : goal.returns-then-not-in_table-clause-pending
+returns-then-not-in_table-clause-pending c = absurd (false≢true (c.if-not-in_table.ensures ∙ c.requires.entry))
+
+pub mark_from-requires-clause-stand : goal.mark_from-requires-clause-stand
+mark_from-requires-clause-stand c = c.requires.stand

@@ -1,6 +1,6 @@
 use Rattle.std.proofs.Common.{◌≡◌, ◌≤◌, length, take, Some, None, slice_get, sym, subst, ap, ◌∙◌, refl}
 use Rattle.std.proofs.lemmas.Result.{IfOk-from_err, on_ok_weaker}
-use Rattle.std.proofs.lemmas.Option.{none-some, same_Some}
+use Rattle.std.proofs.lemmas.Option.{none-some, same_Some, slice_get_within}
 use Rattle.ct_words.specs.declared.claim.Side.{Side}
 use Rattle.ct_words.specs.declared.entry.Entry.{Entry}
 use Rattle.ct_kept.specs.Kept.{SavedValue}
@@ -13,7 +13,7 @@ use Rattle.ct_offers.specs.Offers.{IsWithin}
 use Rattle.ct_offers.specs.Inside.Pulled.{given_rule}
 use Rattle.ct_table.proofs.Failures.{on_err, not_err}
 use Rattle.ct_table.proofs.FollowLemmas.{IsClosing-same, CanFollow-same, IsClosing-from, restored-same, restorable}
-use Rattle.ct_table.proofs.PlacedSupports.{last_is}
+use Rattle.ct_table.proofs.PlacedSupports.{last_is, last_there}
 use Rattle.ct_table.proofs.follow.follow.Goals as goal
 use Rattle.ct_table.proofs.follow.follow.Goals.{then-is_err, else-is_err}
 
@@ -111,3 +111,8 @@ returns-clause-idle c = elim c.if-is_err.branch [
       on_err c.close_again-done.result (subst (λ (k : ClosingValue). IsIdle k.work) (sym w.closing-is) w.clear.ensures)
   | else-is_err w ↦ not_err c.close_again-done.result (IsIdle c.if-is_err.closing.work) (sym c.is_err.ensures.value ∙ w.if-is_err.false)
 ]
+
+pub bounds-supports-place : goal.bounds-supports-place
+bounds-supports-place c =
+    let new = c.requires.new in
+    slice_get_within c.args.supports.now c.args.place new.new_one (last_there c.args.supports.now new.olds new.new_one c.args.place new.are new.end)

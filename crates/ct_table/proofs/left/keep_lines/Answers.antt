@@ -1,11 +1,11 @@
 use Rattle.std.proofs.Common.{◌≡◌, ◌+◌, ◌++◌, ◌∷◌, [], List, ℕ, Option, length, drop, option_map, sym, ap, subst, ◌∙◌}
-use Rattle.std.proofs.lemmas.List.{at_drop_more}
+use Rattle.std.proofs.lemmas.List.{at_drop_more, at_drop_all}
 use Rattle.ct_rules.specs.Derivation.{LineValue}
 use Rattle.ct_rules.specs.Removal.{marked}
 use Rattle.ct_table.specs.Closing.{HasMoreLines}
 use Rattle.ct_kept.specs.Kept.{KeptValue}
 use Rattle.ct_table.specs.Inside.Walk.{moved_line, with_moved, walk}
-use Rattle.ct_table.proofs.MoreLines.{HasMoreLines-moved}
+use Rattle.ct_table.proofs.MoreLines.{HasMoreLines-refl, HasMoreLines-moved}
 use Rattle.ct_table.proofs.left.keep_lines.Goals as goal
 
 pub returns-in_err-push-clause-lines : goal.returns-in_err-push-clause-lines
@@ -42,3 +42,17 @@ loop-line-preserved c =
           (HasMoreLines-moved c.args.kept.now c.loop-line.kept
           (moved_line c.line_count-base.result (marked c.args.gone.now) c.deref.result.now c.line-item.result) c.loop-line.invariant.1),
     )
+
+pub returns-clause-walked : goal.returns-clause-walked
+returns-clause-walked c =
+    let base = c.line_count-base.result in
+    let gone = marked c.args.gone.now in
+    sym (ap (λ (n : ℕ). walk n (marked c.args.gone.now) [] c.args.kept.now c.args.later.now) (sym c.line_count-base.ensures) ∙ c.loop-line.invariant.0
+    ∙ at_drop_all (walk base gone c.loop-line.moved.items c.loop-line.kept) c.args.later.now c.loop-line.line-index c.loop-line-test.false)
+
+pub loop-line-init : goal.loop-line-init
+loop-line-init c = (
+  ap (λ (m : List (Option ℕ)). walk c.line_count-base.result (marked c.args.gone.now) m c.args.kept.now c.args.later.now)
+      (sym c.new-moved.ensures.items),
+  HasMoreLines-refl c.args.kept.now,
+)

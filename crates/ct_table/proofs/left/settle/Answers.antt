@@ -2,9 +2,10 @@ use Rattle.std.proofs.Common.{◌≡◌, List, sym, subst}
 use Rattle.std.specs.Prelude.{Result, Ok, Err, OnOk}
 use Rattle.ct_rule_parts.specs.declared.support.Support.{Support}
 use Rattle.ct_rules.specs.Removal.{marked, voided}
-use Rattle.ct_table.specs.Closing.{ClosingValue, CanClose, IsClosing}
+use Rattle.ct_table.specs.Closing.{ClosingValue, CanClose, IsClosing, HasMoreLines}
 use Rattle.ct_kept.specs.Kept.{KeptValue, BaseValue}
 use Rattle.ct_table.specs.Inside.Removing.{IsSetBack, IsTakenOut}
+use Rattle.ct_table.proofs.MoreLines.{HasMoreLines-trans}
 use Rattle.ct_table.proofs.RemovalLemmas.{later_entries, CanClose-left, IsTakenOut-closed}
 use Rattle.ct_table.proofs.left.settle.Goals as goal
 
@@ -50,3 +51,8 @@ returns-clause-taken c =
     c.in_ok-keep_lines.ensures.walked
     (subst (λ (supports : List Support). IsClosing supports to_close c.close.new.closing) is closed))
     c.close.ensures.closed
+
+pub returns-clause-lines : goal.returns-clause-lines
+returns-clause-lines c =
+    subst (λ (k : ClosingValue). HasMoreLines k.kept c.close.new.closing.kept) c.closing.view_is
+    (HasMoreLines-trans c.closing.inside.kept c.keep_lines.new.kept c.close.new.closing.kept c.keep_lines.ensures.lines c.close.ensures.lines)

@@ -1,10 +1,11 @@
-use Rattle.std.proofs.Common.{[], sym, subst}
+use Rattle.std.proofs.Common.{[], refl, sym, ap, subst}
 use Rattle.std.proofs.lemmas.Result.{on_ok_weaker}
 use Rattle.ct_rules.specs.Closed.{IsClosed}
 use Rattle.ct_table.specs.Closing.{ClosingValue}
 use Rattle.ct_kept.specs.Kept.{IsKept}
 use Rattle.ct_slots.specs.Number.{bound_of}
 use Rattle.ct_table.proofs.BaseLemmas.{IsKept-over}
+use Rattle.ct_table.proofs.FollowLemmas.{IsClosing-from}
 use Rattle.ct_table.proofs.MoreLemmas.{pending_over_more}
 use Rattle.ct_table.proofs.PlacedSupports.{given_marked, AreSupportPlaces-is}
 use Rattle.ct_table.proofs.start.close_over.Goals as goal
@@ -30,4 +31,12 @@ pub returns-clause-places : goal.returns-clause-places
 returns-clause-places c =
     on_ok_weaker c.close.result
     (λ closed. AreSupportPlaces-is c.args.supports.now c.place_supports.new.places c.in_ok-place_supports.ensures.places)
+    c.close.ensures.closed
+
+pub returns-clause-closed : goal.returns-clause-closed
+returns-clause-closed c =
+    on_ok_weaker c.close.result
+    (λ closed. IsClosing-from c.args.supports.now
+    (record { kept = c.closing.inside.kept; work = c.place_supports.new.work; evaluations = c.closing.inside.evaluations }) c.args.closing.now
+    c.close.new.closing c.close.new.closing (ap (λ (k : ClosingValue). k.kept) c.closing.view_is) refl closed)
     c.close.ensures.closed

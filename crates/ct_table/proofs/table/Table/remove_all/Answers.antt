@@ -1,5 +1,4 @@
-use Rattle.std.proofs.Common.{◌≡◌, ℕ, List, length, map, take, drop, ◌++◌, replicate, sym, ap, subst, ◌∙◌, arith, rules}
-use Rattle.std.specs.Vec.{vec_len}
+use Rattle.std.proofs.Common.{◌≡◌, ℕ, List, length, map, take, drop, ◌++◌, replicate, sym, ap, subst, ◌∙◌, arith}
 use Rattle.ct_rule_parts.specs.declared.support.Support.{Support}
 use Rattle.ct_rule_parts.specs.declared.support.Support.TheVariants.{Nothing}
 use Rattle.ct_rules.specs.Removal.{Places, marked, without, voided}
@@ -22,18 +21,13 @@ use Rattle.ct_table.proofs.table.Table.remove_all.Goals as goal
 
 pub exchange-requires : goal.exchange-requires
 exchange-requires c =
-    let one = c.deref_mut.ensures.len in
-    let two = c.deref_mut-2.ensures.len in
-    let given : c.in_ok-taken.taken.items ≡ replicate c.len.result Nothing = c.in_ok-taken.ensures in
-    let long : length c.in_ok-taken.taken.items ≡ vec_len c.in_ok-taken.taken = search rules in
-    let count = c.len.ensures in
-    let same = ap (λ (s : List Support). length s) given ∙ length-replicate c.len.result Nothing in
-    omega (arith, one, two, long, count, same)
+    let given = ap (λ (s : List Support). length s) c.in_ok-taken.ensures ∙ length-replicate c.len.result Nothing in
+    c.deref_mut.ensures.len ∙ sym c.len.ensures ∙ sym given ∙ sym c.in_ok-taken.taken.ok.0 ∙ sym c.deref_mut-2.ensures.len
 
 pub take_out-done-requires-clause-table : goal.take_out-done-requires-clause-table
 take_out-done-requires-clause-table c =
-    let size : length c.self.inside.supports.items ≡ c.self.inside.supports.len = search rules in
-    let count : c.len.result ≡ c.self.inside.supports.len = search rules in
+    let size = sym c.self.inside.supports.ok.0 in
+    let count = c.len.ensures in
     let given : c.in_ok-taken.taken.items ≡ replicate c.len.result Nothing = c.in_ok-taken.ensures in (
       c.self.inside.supports.items,
       c.self.invariant.0,
@@ -45,8 +39,8 @@ take_out-done-requires-clause-table c =
 
 pub take_out-done-requires-clause-places : goal.take_out-done-requires-clause-places
 take_out-done-requires-clause-places c =
-    let size : length c.self.inside.supports.items ≡ c.self.inside.supports.len = search rules in
-    let count : c.len.result ≡ c.self.inside.supports.len = search rules in
+    let size = sym c.self.inside.supports.ok.0 in
+    let count = c.len.ensures in
     let given : c.in_ok-taken.taken.items ≡ replicate c.len.result Nothing = c.in_ok-taken.ensures in
     let void = c.deref.ensures.value
     ∙ voids (marked c.args.gone.now) c.self.inside.supports.items c.in_ok-taken.taken.items c.exchange.new.supports
@@ -58,9 +52,9 @@ take_out-done-requires-clause-places c =
 pub invariant_of-self : goal.invariant_of-self
 invariant_of-self c =
     let t = c.self.inside in
-    let size : length c.self.inside.supports.items ≡ c.self.inside.supports.len = search rules in
-    let count : c.len.result ≡ c.self.inside.supports.len = search rules in
-    let long : length c.in_ok-taken.taken.items ≡ c.in_ok-taken.taken.len = search rules in
+    let size = sym c.self.inside.supports.ok.0 in
+    let count = c.len.ensures in
+    let long = sym c.in_ok-taken.taken.ok.0 in
     let given : c.in_ok-taken.taken.items ≡ replicate c.len.result Nothing = c.in_ok-taken.ensures in
     let here : c.deref_mut-in-Err-2.result.now ≡ take c.self.inside.supports.len (c.exchange.new.supports ++ drop (length c.exchange.new.supports) c.self.inside.supports.items) = c.deref_mut-in-Err-2.ensures.value in
     let there : c.deref_mut-in-Err.result.now ≡ take c.in_ok-taken.taken.len (c.exchange.new.others ++ drop (length c.exchange.new.others) c.in_ok-taken.taken.items) = c.deref_mut-in-Err.ensures.value in
@@ -77,9 +71,9 @@ invariant_of-self c =
 
 pub returns-in-Err-clause-unchanged : goal.returns-in-Err-clause-unchanged
 returns-in-Err-clause-unchanged c =
-    let size : length c.self.inside.supports.items ≡ c.self.inside.supports.len = search rules in
-    let count : c.len.result ≡ c.self.inside.supports.len = search rules in
-    let long : length c.in_ok-taken.taken.items ≡ c.in_ok-taken.taken.len = search rules in
+    let size = sym c.self.inside.supports.ok.0 in
+    let count = c.len.ensures in
+    let long = sym c.in_ok-taken.taken.ok.0 in
     let given : c.in_ok-taken.taken.items ≡ replicate c.len.result Nothing = c.in_ok-taken.ensures in
     let here : c.deref_mut-in-Err-2.result.now ≡ take c.self.inside.supports.len (c.exchange.new.supports ++ drop (length c.exchange.new.supports) c.self.inside.supports.items) = c.deref_mut-in-Err-2.ensures.value in
     let there : c.deref_mut-in-Err.result.now ≡ take c.in_ok-taken.taken.len (c.exchange.new.others ++ drop (length c.exchange.new.others) c.in_ok-taken.taken.items) = c.deref_mut-in-Err.ensures.value in
@@ -111,8 +105,8 @@ removal : (c : goal.After-rebuild) → IsRemoval (marked c.args.gone.now) c.self
       };
     })
 removal c =
-    let size : length c.self.inside.supports.items ≡ c.self.inside.supports.len = search rules in
-    let count : c.len.result ≡ c.self.inside.supports.len = search rules in
+    let size = sym c.self.inside.supports.ok.0 in
+    let count = c.len.ensures in
     let given : c.in_ok-taken.taken.items ≡ replicate c.len.result Nothing = c.in_ok-taken.ensures in
     let items = voids (marked c.args.gone.now) c.self.inside.supports.items c.in_ok-taken.taken.items c.exchange.new.supports
     c.self.inside.supports.len size (given ∙ ap (λ (n : ℕ). replicate n Nothing) count)
@@ -133,8 +127,8 @@ left_items c =
 
 pub rebuild-requires : goal.rebuild-requires
 rebuild-requires c =
-    let size : length c.self.inside.supports.items ≡ c.self.inside.supports.len = search rules in
-    let count : c.len.result ≡ c.self.inside.supports.len = search rules in
+    let size = sym c.self.inside.supports.ok.0 in
+    let count = c.len.ensures in
     let given : c.in_ok-taken.taken.items ≡ replicate c.len.result Nothing = c.in_ok-taken.ensures in
     let items = voids (marked c.args.gone.now) c.self.inside.supports.items c.in_ok-taken.taken.items c.exchange.new.supports
     c.self.inside.supports.len size (given ∙ ap (λ (n : ℕ). replicate n Nothing) count)
@@ -164,3 +158,8 @@ returns-clause-reasons c =
     subst (λ (v : TableValue). KeepsReasons (marked c.args.gone.now) v (table_of c.leave_out.new.supports.items c.lower.new.self)) c.self.view_is
     (KeepsReasons-without (marked c.args.gone.now) c.self.inside.supports.items c.leave_out.new.supports.items c.self.inside.closing.kept _
     c.self.inside.closing.work _ c.lower.new.self r.table r.taken r.more c.lower.ensures)
+
+pub exchange-requires-in-Err : goal.exchange-requires-in-Err
+exchange-requires-in-Err c =
+    let given = ap (λ (s : List Support). length s) c.in_ok-taken.ensures ∙ length-replicate c.len.result Nothing in
+    c.deref_mut-in-Err.ensures.len ∙ c.in_ok-taken.taken.ok.0 ∙ given ∙ c.len.ensures ∙ sym c.deref_mut-in-Err-2.ensures.len
