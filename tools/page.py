@@ -20,7 +20,7 @@ import least
 import table
 import table_data
 import words_of_pieces
-from code_tables import provenance
+from code_tables import provenance, published
 from code_tables.sessions import Refusal, name_of
 from table import is_trivial
 
@@ -29,8 +29,6 @@ CLOSE = 1.1
 MOST_WORDS = 16384
 DARK = ("color-scheme: dark; --ground: #12171d; --ink: #e4e9ee; --faint: #9aa6b2; --link: #86bdf5; --head: #222a33; --equal: #1d3f5e; --close: #544a14; "
         "--wide: #6b3a14; --line: #56616d; --empty: #252d36; --text: #1a2129;")
-SEMIDEFINITE = ("Upper bounds by semidefinite programming (Schrijver 2005; Gijswijt, Mittelmann and Schrijver 2012) are left out of the comparison and of "
-                "the rules; at many entries that are not exact they are better.")
 
 
 def style():
@@ -79,9 +77,29 @@ def shown():
 
 
 def is_unconfirmed(entry, bounds):
-    """Whether a lower bound is above the one that is remembered as published."""
-    known = table.published_at(entry)
-    return bool(known) and bounds[0] > known[0]
+    """Whether a bound is better than the one that is remembered as published."""
+    return any("unconfirmed" in told for told in table.standings(entry, bounds))
+
+
+def is_behind(entry, bounds):
+    """Whether a better bound is remembered as published."""
+    return any(told.startswith("published only") for told in table.standings(entry, bounds))
+
+
+def compared(entry, bounds):
+    """The sentences that set the bounds of an entry beside the published ones."""
+    told = published.value(*entry)
+    if bounds[0] == bounds[1]:
+        return ["Exact, and proved here: no better bound is possible."]
+    if not told:
+        return [f"Published values of this entry: {published.UNKNOWN}."]
+    lines = []
+    for side, here, standing in zip(table.SIDES, bounds, table.standings(entry, bounds)):
+        there = getattr(told, side)
+        remembered = "" if there is None else f"{there} is remembered as published" if standing.startswith("published only") or there != here else ""
+        source = f", {told.source}" if side == "upper" and told.source and standing.startswith("published only") else ""
+        lines.append(f"The {side} bound {here}: {standing}{source}{'; ' if remembered else ''}{remembered}.")
+    return lines + ([f"Before it: {told.note}."] if told.note else [])
 
 
 def kind_of(piece):
@@ -202,17 +220,7 @@ class Page:
 
     def known(self, entry, low, high):
         """What is known beside the bounds of an entry."""
-        if low == high:
-            return "Exact: both bounds are equal, and nothing better is possible."
-        there = table.published_at(entry)
-        beside = f" {SEMIDEFINITE}"
-        if not there:
-            return "Not compared with published values." + beside
-        told = f"Remembered as published: at least {there[0]}; the lower bound here is {table.compared(low, there[0])}."
-        if len(there) > 1:
-            told = f"Published: {there[0]} and {there[1]}; the lower bound here is {table.compared(low, there[0])}, the upper {table.compared(high, there[1])}."
-        doubt = " <strong>Unconfirmed against present tables</strong>: that the code exists is checked, that it is new is not said." if low > there[0] else ""
-        return told + doubt + beside
+        return html.escape(" ".join(compared(entry, (low, high))))
 
     def line(self, text):
         """A line of a derivation as a sentence: its claim, the rule, what it rests on, and what the rule says and why."""

@@ -1,7 +1,7 @@
 """What the program's table holds over the pieces of a session: bounds, the pieces with their documents and sources, and what a bound rests on.
 
-Used by page.py, table_data.py and cite.py, which only show it: each number here is one that the program wrote, but for those that
-tools/published.json remembers as published. The sentences of the rules are in tools/rules.json, which a test compares with docs/RULES.md."""
+Used by page.py, table_data.py and cite.py, which only show it: each number here is one that the program wrote. Published values are those of
+code_tables.published. The sentences of the rules are in tools/rules.json, which a test compares with docs/RULES.md."""
 
 import hashlib
 import json
@@ -9,12 +9,13 @@ from dataclasses import dataclass, field
 from functools import cache
 from pathlib import Path
 
-from code_tables import cites, program, sessions
+from code_tables import cites, program, published, sessions
 from code_tables.sessions import LAST, Refusal
 
 LENGTHS = range(1, LAST + 1)
 DISTANCES = range(3, LAST + 1)
 EVEN = range(4, LAST + 1, 2)
+SIDES = ("lower", "upper")
 # How many explanations are asked for in one session: they are as long as the documents that they rest on.
 AT_ONCE = 500
 
@@ -89,25 +90,10 @@ def rule_row(rule, entry):
     return rules()[rule][at]
 
 
-@cache
-def published():
-    """The bounds that are remembered as published, by entry: two, or with a weight the lower one alone."""
-    rows = json.loads(Path(__file__).with_name("published.json").read_text("utf-8"))
-    return {(n, d): bounds for n, d, *bounds in rows["plain"]} | {(n, d, w): bounds for n, d, w, *bounds in rows["weight"]}
-
-
-def published_at(entry):
-    """What is remembered as published at an entry, or at the one that is equal to it by a parity digit or by turning each digit."""
-    if len(entry) == 2:
-        n, d = entry
-        return published().get((n + d % 2, d + d % 2))
-    n, d, w = entry
-    return published().get((n, d, min(w, n - w)))
-
-
-def compared(here, there):
-    """How a number stands to another, in a word."""
-    return "equal" if here == there else "below" if here < there else "above"
+def standings(entry, bounds):
+    """How both bounds of an entry stand to the published ones, in words: where they are equal, nothing better is possible."""
+    told = published.value(*entry)
+    return tuple("proved here" if bounds[0] == bounds[1] else published.standing(side, here, told) for side, here in zip(SIDES, bounds))
 
 
 def read_sessions(paths):

@@ -4,10 +4,12 @@
     tools/table_data.py --csv table.csv --json table.json examples/library/*.session
 
 The CSV file has a line for each of the entries: n, d, w (empty without weight), the two bounds, the last rule of each, and the ids of the
-pieces that each rests on, with spaces between. The JSON file has the same with each derivation, line by line as `explain` writes it, with the
+pieces that each rests on, with spaces between; then the published bounds as they are remembered, their technique and source, and whether each
+bound is proved here or only published. The JSON file has the same with each derivation, line by line as `explain` writes it, with the
 sentences and sources of the rules, and with the document of each piece, so that each bound can be checked again: `document` here puts a
 derivation together, for `verify` or tools/check_derivation.py. tools/table.schema.json is its schema. `made` is the day in UTC, or that of the
-variable SOURCE_DATE_EPOCH. A refused submission is said on standard error, and ends with 1."""
+variable SOURCE_DATE_EPOCH. With --comparison FILE the open entries are written beside the published values, as the tables of
+examples/library/README.md. A refused submission is said on standard error, and ends with 1."""
 
 import argparse
 import csv
@@ -18,11 +20,12 @@ import sys
 import time
 
 import table
-from code_tables import provenance
-from code_tables.sessions import Refusal
+from code_tables import provenance, published
+from code_tables.sessions import Refusal, name_of
+from table import SIDES
 
-FORMAT = "code_tables table 1"
-SIDES = ("lower", "upper")
+FORMAT = "code_tables table 2"
+PUBLISHED = ("lower", "upper", "technique", "source", "note")
 
 
 def ask_everything():
@@ -43,11 +46,18 @@ def resting_ids(held, side, entry):
 
 def csv_rows(held):
     """The lines of the CSV file."""
-    yield ["n", "d", "w", "lower", "upper", "lower_rule", "upper_rule", "lower_pieces", "upper_pieces"]
+    yield ["n", "d", "w", "lower", "upper", "lower_rule", "upper_rule", "lower_pieces", "upper_pieces",
+           "published_lower", "published_upper", "technique", "source", "note", "lower_is", "upper_is"]
     for entry in table.entries():
         n, d, w = (*entry, "")[:3]
         rules = [held.derivations[side, entry].rule if (side, entry) in held.derivations else "" for side in SIDES]
-        yield [n, d, w, *held.bounds[entry], *rules, *(" ".join(resting_ids(held, side, entry)) for side in SIDES)]
+        yield [n, d, w, *held.bounds[entry], *rules, *(" ".join(resting_ids(held, side, entry)) for side in SIDES), *known_at(held, entry).values()]
+
+
+def known_at(held, entry):
+    """What is known as published of an entry, and how its bounds stand to that."""
+    told = published.value(*entry) or published.Value()
+    return {name: getattr(told, name) for name in PUBLISHED} | dict(zip(("lower_is", "upper_is"), table.standings(entry, held.bounds[entry])))
 
 
 def bound_of(held, side, entry):
@@ -60,7 +70,7 @@ def bound_of(held, side, entry):
 def entry_of(held, entry):
     """An entry as data."""
     n, d, w = (*entry, None)[:3]
-    return {"n": n, "d": d, "w": w, **{side: bound_of(held, side, entry) for side in SIDES}}
+    return {"n": n, "d": d, "w": w, **{side: bound_of(held, side, entry) for side in SIDES}, "published": known_at(held, entry)}
 
 
 def piece_of(piece):
@@ -90,6 +100,31 @@ def document(whole, entry, side):
     return "\n".join([*lines, *entry[side]["derivation"], "done"]) + "\n"
 
 
+def opened(held):
+    """The open entries that are compared: to length 28, of even d, and with w at most n/2, to which all others are equal."""
+    return [entry for entry in table.entries() if entry == published.same(*entry) and entry[0] <= published.LONGEST and held.bounds[entry][0] < held.bounds[entry][1]]
+
+
+def comparison(held, size):
+    """The open entries of 2 or 3 numbers of which a published value is known, beside it, as a table of Markdown."""
+    lines = ["| entry | here | published | lower | upper |", "|---|---|---|---|---|"]
+    for entry in opened(held):
+        told = published.value(*entry)
+        if len(entry) == size and told:
+            low, high = held.bounds[entry]
+            there = f"{told.lower}" if told.upper == told.lower else f"{told.lower}..{told.upper}" if told.upper else f"≥ {told.lower}"
+            lower, upper = table.standings(entry, (low, high))
+            source = f" ({told.source})" if told.source and upper.startswith("published only") else ""
+            lines.append(f"| {name_of(entry)} | {low}..{high} | {there} | {lower} | {upper}{source} |")
+    return "".join(line + "\n" for line in lines)
+
+
+def write_comparison(path, held):
+    """Writes both tables beside published values."""
+    with open(path, "w", encoding="utf-8") as file:
+        file.write(comparison(held, 2) + "\n" + comparison(held, 3))
+
+
 def write_csv(path, held):
     """Writes the CSV file."""
     with open(path, "w", newline="", encoding="utf-8") as file:
@@ -115,13 +150,15 @@ def main():
     parser.add_argument("sessions", nargs="+", help="the library")
     parser.add_argument("--csv", help="the file for comma-separated values")
     parser.add_argument("--json", help="the file for JSON")
+    parser.add_argument("--comparison", help="the file for the open entries beside published values, as Markdown")
     options = parser.parse_args()
     try:
-        held = table.held(table.read_sessions(options.sessions), ask_everything())
-        if options.csv:
-            write_csv(options.csv, held)
-        if options.json:
-            write_json(options.json, held)
+        if not (options.csv or options.json or options.comparison):
+            raise Refusal("nothing is asked for: give --csv FILE, --json FILE or --comparison FILE")
+        held = table.held(table.read_sessions(options.sessions), ask_everything() if options.csv or options.json else table.ask_all())
+        for path, write in (options.csv, write_csv), (options.json, write_json), (options.comparison, write_comparison):
+            if path:
+                write(path, held)
     except (Refusal, OSError) as fault:
         sys.exit(f"table_data: refused: {fault}")
     for command, reply in held.refused:

@@ -1,7 +1,7 @@
 """Published bounds, as they are remembered: published.json beside this file has them, and nothing could be looked up.
 
     >>> value(20, 8).upper, value(19, 7).technique
-    (256, 'semidefinite programming (quadruples of words)')
+    (256, 'semidefinite programming with quadruples of words')
     >>> value(24, 10, 16).lower
     69
     >>> print(value(24, 8, 8))
@@ -19,6 +19,8 @@ from .sessions import Entry
 
 REMEMBERED = "Published values are remembered, and none of them could be looked up."
 UNKNOWN = "not known here"
+# The greatest length to which published values are remembered.
+LONGEST = 28
 
 
 @dataclass(frozen=True)
@@ -51,16 +53,25 @@ def unknown() -> list[Entry]:
     return [tuple(row) for row in _file()[UNKNOWN]]
 
 
+def same(n: int, d: int, w: int | None = None) -> Entry:
+    """The entry to which one is equal: for odd d that of n+1 and d+1, for w above n/2 that of n-w, else itself.
+
+        >>> same(15, 5), same(24, 8, 16)
+        ((16, 6), (24, 8, 8))
+    """
+    return (n + d % 2, d + d % 2) if w is None else (n, d, min(w, n - w))
+
+
 def value(n: int, d: int, w: int | None = None) -> Value | None:
-    """The published bounds of A(n,d) or A(n,d,w), which for odd d are those of A(n+1,d+1), and for w above n/2 those of A(n,d,n-w)."""
-    return values().get((n + d % 2, d + d % 2) if w is None else (n, d, min(w, n - w)))
+    """The published bounds of A(n,d) or A(n,d,w), or of the entry to which it is equal."""
+    return values().get(same(n, d, w))
 
 
 def standing(side: str, here: int, told: Value | None) -> str:
     """How a bound of a side, `lower` or `upper`, stands to the published one.
 
         >>> standing("upper", 279, value(20, 8))
-        'published only, by semidefinite programming (quadruples of words)'
+        'published only, by semidefinite programming with quadruples of words'
         >>> standing("lower", 256, value(20, 8)), standing("lower", 20480, value(25, 6)), standing("upper", 13, value(24, 8, 8))
         ('proved here', 'proved here, above what is remembered: unconfirmed', 'not known here')
     """

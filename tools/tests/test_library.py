@@ -1,23 +1,19 @@
 """The library is accepted, and reaches what examples/library/README.md says, which compares it with what is remembered as published."""
 
-import json
 import re
 import unittest
 from functools import cache
 
-from support import TOOLS, TOP, needs_program
+from support import TOP, needs_program
 
 import check_derivation
 import table
-from code_tables import sessions
+import table_data
+from code_tables import published, sessions
 from code_tables.cites import check_cites, cites_of
 
 FILES = sorted((TOP / "examples/library").glob("*.session"))
 TEXT = (TOP / "examples/library/README.md").read_text()
-PLAIN = r"^\| A\((\d+),(\d+)\) \| (\d+) \| (\d+) \| (\w+) \| (\d+) \| (\d+) \| (\w+) \|$"
-EXCLUDED = r"^\| A\((\d+),(\d+)\) \| (\d+) \| (\d+) \| (\d+|-) \| (\w+|-) \|$"
-SEEN = r"^\| A\((\d+),(\d+),(\d+)\) \| (\d+) \| (\d+) \|$"
-WEIGHT = r"^\| A\((\d+),(\d+),(\d+)\) \| (\d+) \| (\d+) \| (\w+) \|$"
 
 
 def exact(found, length):
@@ -28,11 +24,6 @@ def exact(found, length):
 def told(row):
     """The two numbers of a row of the document."""
     return tuple(map(int, re.search(re.escape(f"| {row} |") + r" (\d+) \| (\d+) \|", TEXT).groups()))
-
-
-def rows(pattern):
-    """The rows of a table of the document, numbers as such."""
-    return [[int(cell) if cell.isdigit() else cell for cell in cells] for cells in re.findall(pattern, TEXT, re.M)]
 
 
 @cache
@@ -117,27 +108,15 @@ class Library(unittest.TestCase):
             self.assertEqual((len(found.bounds), exact(found, 2), exact(found, 3)), (len(table.entries()), *told(row)))
 
     @needs_program
-    def test_the_document_says_what_an_odd_number_of_words_excludes(self):
-        better = [entry for entry, bounds in first(8).bounds.items() if bounds != first(7).bounds[entry]]
-        self.assertIn(f"better {len(better)} entries", " ".join(TEXT.split()))
-        listed = [entry for entry in better if entry[1] % 2 == 0 or entry[0] == sessions.LAST]
-        self.assertEqual(sorted((n, d) for n, d, *_ in rows(EXCLUDED)), sorted(listed))
-        self.assertEqual(sorted((n + 1, d + 1) for n, d in better if (n, d) not in listed), sorted(entry for entry in listed if entry[1] % 2 == 0))
-        for n, d, before, now, published, compared in rows(EXCLUDED):
-            self.assertEqual((first(7).bounds[n, d][1], first(8).bounds[n, d][1]), (before, now))
-            known = table.published_at((n, d)) or (published, published)
-            self.assertEqual((published, compared), ("-", "-") if published == "-" else (known[1], table.compared(now, known[1])), (n, d))
-
-    @needs_program
-    def test_the_document_says_what_is_seen_from_a_word(self):
-        better = {entry: (first(8).bounds[entry][1], high) for entry, (_, high) in whole().bounds.items() if high < first(8).bounds[entry][1]}
-        self.assertEqual({entry for entry in better if len(entry) == 2}, set())
-        listed = {(n, d, w): (before, now) for n, d, w, before, now in rows(SEEN)}
-        self.assertEqual(listed, {entry: pair for entry, pair in better.items() if 2 * entry[2] <= entry[0]})
-        duals = {piece.entry for piece in whole().pieces.values() if piece.kind == "jlocal"}
-        self.assertLessEqual(duals, set(listed))
-        more = len(better) - len(listed)
-        self.assertIn(f"better {len(listed)} entries A(n,d,w) with w at most n/2, those below, and {more} more by", " ".join(TEXT.split()))
+    def test_the_document_counts_what_duals_improve(self):
+        text = " ".join(TEXT.split())
+        self.assertIn(f"The 25 duals of the eighth session improve {sum(bounds != first(7).bounds[entry] for entry, bounds in first(8).bounds.items())} entries", text)
+        better = [entry for entry, bounds in whole().bounds.items() if bounds != first(8).bounds[entry]]
+        least = [entry for entry in better if entry == published.same(*entry)]
+        self.assertIn(f"improve {len(least)} entries with w at most n/2, and {len(better) - len(least)} more by A(n,d,w) = A(n,d,n-w)", text)
+        for name, value in re.findall(r"A\(([\d,]+)\) = (\d+)", TEXT):
+            entry = tuple(map(int, name.split(",")))
+            self.assertEqual(whole().bounds[entry], (int(value), int(value)), entry)
 
     @needs_program
     def test_each_dual_bounds_what_is_said_above_it(self):
@@ -150,20 +129,17 @@ class Library(unittest.TestCase):
                 bound = formula(*(whole().bounds[premise][1] for premise in premises))
                 self.assertRegex(piece.title, rf"^{re.escape(sessions.name_of(piece.entry))} is at most {bound}\b", piece.id)
 
-    def test_what_is_published_stands_in_the_document_and_in_the_data(self):
-        data = json.loads((TOOLS / "published.json").read_text())
-        self.assertEqual([[n, d, lower, upper] for n, d, _, lower, _, _, upper, _ in rows(PLAIN)], data["plain"])
-        self.assertEqual([[n, d, w, lower] for n, d, w, _, lower, _ in rows(WEIGHT)], data["weight"])
-        self.assertTrue({(12, 4, 5, 80), (13, 4, 5, 123), (24, 10, 8, 69)} <= set(map(tuple, data["weight"])))
-
     @needs_program
-    def test_the_document_compares_the_bounds_of_the_program(self):
-        self.assertEqual(len(rows(PLAIN)), sum(low < high for (n, d, *w), (low, high) in whole().bounds.items() if n <= 28 and d % 2 == 0 and not w))
-        for n, d, low, lower, is_low, high, upper, is_high in rows(PLAIN):
-            self.assertEqual(((low, high), is_low, is_high), (whole().bounds[n, d], table.compared(low, lower), table.compared(high, upper)))
-        for n, d, w, low, lower, is_low in rows(WEIGHT):
-            self.assertLess(*whole().bounds[n, d, w])
-            self.assertEqual((low, is_low), (whole().bounds[n, d, w][0], table.compared(low, lower)), (n, d, w))
+    def test_the_document_compares_each_open_entry(self):
+        opened = table_data.opened(whole())
+        for size in (2, 3):
+            self.assertIn(table_data.comparison(whole(), size), TEXT)
+        self.assertEqual([entry for entry in opened if len(entry) == 2 and not published.value(*entry)], [])
+        known = [bool(published.value(*entry)) for entry in opened if len(entry) == 3]
+        self.assertIn(f"Of the {len(known)} open A(n,d,w) with w at most n/2, to length {published.LONGEST}, a published value is remembered at these {sum(known)}", " ".join(TEXT.split()))
+
+    def test_no_sentence_calls_two_values_equal(self):
+        self.assertNotRegex(re.sub(r"both bounds are equal", "", TEXT), r"\bequal\b")
 
     @needs_program
     def test_the_products_of_the_examples_are_the_best_of_the_library(self):

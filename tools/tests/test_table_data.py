@@ -63,10 +63,24 @@ class Data(unittest.TestCase):
             cls.json = json.loads(Path(folder + "/t.json").read_text(encoding="utf-8"))
 
     def test_the_csv_has_every_entry(self):
-        self.assertEqual(self.rows[0], ["n", "d", "w", "lower", "upper", "lower_rule", "upper_rule", "lower_pieces", "upper_pieces"])
+        self.assertEqual(self.rows[0], ["n", "d", "w", "lower", "upper", "lower_rule", "upper_rule", "lower_pieces", "upper_pieces",
+                                        "published_lower", "published_upper", "technique", "source", "note", "lower_is", "upper_is"])
         self.assertEqual([tuple(map(int, filter(None, row[:3]))) for row in self.rows[1:]], table.entries())
-        self.assertIn(["10", "6", "", "1", "1024", "L10", "U0", "hexa", ""], self.rows)
-        self.assertIn(["11", "6", "", "1", "2048", "L10", "U0", "hexa longer", ""], self.rows)
+        self.assertIn(["10", "6", "", "1", "1024", "L10", "U0", "hexa", "", "", "", "", "", "", "not known here", "not known here"], self.rows)
+        self.assertIn(["11", "6", "", "1", "2048", "L10", "U0", "hexa longer", "", "12", "12", "", "", "", "published only",
+                       "published only, the technique is not remembered"], self.rows)
+
+    def test_both_have_the_published_values(self):
+        by = "semidefinite programming with quadruples of words"
+        entry = next(e for e in self.json["entries"] if (e["n"], e["d"], e["w"]) == (19, 7, None))
+        self.assertEqual(entry["published"], {"lower": 256, "upper": 256, "technique": by, "source": "Gijswijt, Mittelmann and Schrijver 2012", "note": None,
+                                              "lower_is": "published only", "upper_is": "published only, by " + by})
+        row = next(row for row in self.rows if row[:3] == ["24", "10", "16"])
+        self.assertEqual(row[-7:], ["69", "", "", "", "", "published only", "not known here"])
+        self.assertEqual(next(row for row in self.rows if row[:3] == ["5", "6", ""])[-2:], ["proved here", "proved here"])
+
+    def test_without_outputs_it_says_what_to_give(self):
+        self.assertEqual(run("table_data.py", SMALL, env=FAKE), ("", "table_data: refused: nothing is asked for: give --csv FILE, --json FILE or --comparison FILE\n", 1))
 
     def test_the_json_has_every_entry_with_rule_derivation_and_documents(self):
         self.assertEqual([(e["n"], e["d"]) if e["w"] is None else (e["n"], e["d"], e["w"]) for e in self.json["entries"]], table.entries())
