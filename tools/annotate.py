@@ -27,6 +27,7 @@ from pathlib import Path
 import check_primal
 from code_tables import sessions
 from code_tables.cites import LONGEST_CITE, MOST_CITES
+from code_tables.ending import ended
 from code_tables.fitting import Standing
 from code_tables.sessions import LAST, Refusal, texts_of, words_of
 from code_tables.words import MOST_WORK, distance, span
@@ -191,4 +192,4 @@ def main():
 
 
 if __name__ == "__main__":
-    main()
+    ended(main)

@@ -24,6 +24,7 @@ from fractions import Fraction
 
 import check_derivation
 from check_derivation import MAX, No, scheme_number
+from code_tables.ending import ended
 from code_tables.sessions import Refusal, lines_of, name_of, number_of
 
 # The greatest number that a document, and a primal, has.
@@ -175,4 +176,4 @@ def main():
 
 
 if __name__ == "__main__":
-    main()
+    ended(main)

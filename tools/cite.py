@@ -15,6 +15,7 @@ import sys
 
 import table
 from code_tables import provenance
+from code_tables.ending import ended
 from code_tables.sessions import Refusal, is_entry, name_of
 
 
@@ -107,4 +108,4 @@ def main():
 
 
 if __name__ == "__main__":
-    main()
+    ended(main)

@@ -15,6 +15,7 @@ import sys
 from pathlib import Path
 
 from code_tables import sessions
+from code_tables.ending import ended
 from code_tables.sessions import Refusal
 
 
@@ -62,4 +63,4 @@ def main():
 
 
 if __name__ == "__main__":
-    main()
+    ended(main)

@@ -16,6 +16,7 @@ import sys
 from pathlib import Path
 
 from code_tables import program, sessions
+from code_tables.ending import ended
 from code_tables.sessions import Refusal
 
 
@@ -72,4 +73,4 @@ def main():
 
 
 if __name__ == "__main__":
-    main()
+    ended(main)

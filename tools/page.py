@@ -21,6 +21,7 @@ import table
 import table_data
 import words_of_pieces
 from code_tables import provenance, published
+from code_tables.ending import ended
 from code_tables.sessions import Refusal, name_of
 from table import is_trivial
 
@@ -356,4 +357,4 @@ def main():
 
 
 if __name__ == "__main__":
-    main()
+    ended(main)

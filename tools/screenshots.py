@@ -17,6 +17,8 @@ import sys
 import tempfile
 from pathlib import Path
 
+from code_tables.ending import ended
+
 DESKTOP, PHONE, PAPER = (1280, 900, 1, False), (390, 844, 2, True), (740, 1000, 1, False)
 
 # Each: its name, the window, where the page is opened at, the medium or `dark`, the vision, and what is done before the picture.
@@ -166,4 +168,4 @@ def main():
 
 
 if __name__ == "__main__":
-    main()
+    ended(main)

@@ -61,6 +61,7 @@ from math import comb, factorial, gcd
 
 from check_derivation import doubly
 from code_tables.cites import check_cites, citing
+from code_tables.ending import ended
 from code_tables.sessions import LAST, Refusal, is_entry, name_of, number_of
 from code_tables.words import check_id
 
@@ -286,4 +287,4 @@ def main():
 
 
 if __name__ == "__main__":
-    main()
+    ended(main)

@@ -10,12 +10,14 @@ from functools import cache
 from pathlib import Path
 
 from code_tables import cites, program, published, sessions
-from code_tables.sessions import LAST, Refusal
+from code_tables.sessions import LAST, Refusal, quoted
 
 LENGTHS = range(1, LAST + 1)
 DISTANCES = range(3, LAST + 1)
 EVEN = range(4, LAST + 1, 2)
 SIDES = ("lower", "upper")
+# The words with which a command of a session begins.
+COMMANDS = ("submit", "withdraw", "show", "table", "explain", "list", "ledger", "dump")
 # How many explanations are asked for in one session: they are as long as the documents that they rest on.
 AT_ONCE = 500
 
@@ -96,9 +98,18 @@ def standings(entry, bounds):
     return tuple("proved here" if bounds[0] == bounds[1] else published.standing(side, here, told) for side, here in zip(SIDES, bounds))
 
 
+def read_session(path):
+    """The text of a session; a file that holds other lines than commands is refused."""
+    text = sessions.read_text(path)
+    other = next((command for command in sessions.commands(text) if command.words[0] not in COMMANDS), None)
+    if other:
+        raise Refusal(f"{path} is no session: its line {other.line}, {quoted(' '.join(other.words))}, is no command; give sessions, as examples/library/*.session")
+    return text if text.endswith("\n") else text + "\n"
+
+
 def read_sessions(paths):
     """The texts of sessions, one behind the other."""
-    return "".join(text if text.endswith("\n") else text + "\n" for text in map(sessions.read_text, paths))
+    return "".join(map(read_session, paths))
 
 
 def ask_all():

@@ -21,6 +21,7 @@ import time
 
 import table
 from code_tables import provenance, published
+from code_tables.ending import ended
 from code_tables.sessions import Refusal, name_of
 from table import SIDES
 
@@ -167,4 +168,4 @@ def main():
 
 
 if __name__ == "__main__":
-    main()
+    ended(main)
