@@ -7,16 +7,19 @@
 N D, or N D W, and then the sessions, which are run one behind the other. The pieces of each side are those of its derivation, with the remarks
 right above the submission and what its document cites; the rules are those of the derivation, with their sources from tools/rules.json. Then come
 the checksum of the program that answered, the commit of its sources and the toolchain that proved them, both `unknown` where no record beside
-the program holds them, and the hash of the sessions. The same as BibTeX stands below: an entry for the bound, and one more, with a `note`, for
-each text that its pieces cite. `--bibtex` gives that alone."""
+the program holds them, and the hash of the sessions. The same as BibTeX stands below: an entry for the bound, and one more for each work that its
+pieces cite and that its rules are from, as tools/code_tables/bibliography.toml has them; a cited text that names none of these is a `note`.
+`--bibtex` gives that alone. The year is today's, or that of the variable SOURCE_DATE_EPOCH."""
 
 import argparse
 import sys
 
 import table
-from code_tables import provenance
+from code_tables import about, bibliography, provenance
+from code_tables.bibliography import latex
 from code_tables.ending import ended
 from code_tables.sessions import Refusal, is_entry, name_of
+from table_data import today
 
 
 def rules_of(derivation):
@@ -48,35 +51,45 @@ def as_text(held, entry):
     for side, value in ("lower", low), ("upper", high):
         lines += side_lines(held, side, entry, value)
     made = provenance.provenance()
-    lines += [f"program    code_tables, SHA-256 {made.program}", f"commit     {made.commit}", f"toolchain  {made.toolchain}",
+    lines += [f"table      {about.TITLE}, version {about.VERSION}, {about.AUTHOR}, {today()}",
+              f"program    code_tables, SHA-256 {made.program}", f"commit     {made.commit}", f"toolchain  {made.toolchain}",
               f"sessions   SHA-256 {held.session_hash}"]
     return "\n".join(lines) + "\n"
 
 
-def escaped(text):
-    """A text as LaTeX reads it."""
-    special = {"\\": r"\textbackslash{}", "^": r"\^{}", "~": r"\~{}", **{c: "\\" + c for c in "&%$#_{}"}}
-    return "".join(special.get(c, c) for c in text)
-
-
 def resting(held, entry):
     """The pieces that the two bounds of an entry rest on, in ledger order."""
-    return table.resting(held, [name for side in ("lower", "upper") if (side, entry) in held.derivations for name in held.derivations[side, entry].ids])
+    return table.resting(held, [name for side in table.SIDES if (side, entry) in held.derivations for name in held.derivations[side, entry].ids])
+
+
+def sources(held, entry):
+    """What the pieces of an entry cite, in order, and then the works that its rules are from: works, and texts that name none."""
+    known = table.rules()
+    rules = [rule for side in table.SIDES if (side, entry) in held.derivations for rule in rules_of(held.derivations[side, entry])]
+    works = [work for rule in rules for row in known.get(rule, ()) for work in bibliography.named(row["source"])]
+    return list(dict.fromkeys([*(bibliography.cited(text) or text for text in table.cited(resting(held, entry))), *works]))
+
+
+def own_bibtex(held, entry, key):
+    """The entry of BibTeX for the bound itself."""
+    low, high = held.bounds[entry]
+    claim = f"{name_of(entry)} = {low}" if low == high else rf"{low} \le {name_of(entry)} \le {high}"
+    made, pieces = provenance.provenance(), ", ".join(piece.id for piece in resting(held, entry))
+    note = [f"Version {about.VERSION}", *([f"Rests on {pieces}"] if pieces else []), f"Program SHA-256 {made.program}, commit {made.commit}, toolchain {made.toolchain}",
+            f"Sessions SHA-256 {held.session_hash}"]
+    return bibliography.entry("misc", key, {
+        "author": f"{{{latex(about.AUTHOR)}}}", "title": f"{{{latex(about.TITLE)}: ${claim}$}}", "year": today()[:4], "version": about.VERSION,
+        "howpublished": latex("Output of the program code_tables"), "note": latex(". ".join(note))})
 
 
 def as_bibtex(held, entry):
-    """The citation as entries of BibTeX: the bound's, and one for each text that its pieces cite."""
-    low, high = held.bounds[entry]
-    claim = f"{name_of(entry)} = {low}" if low == high else rf"{low} \le {name_of(entry)} \le {high}"
-    pieces = resting(held, entry)
-    rests = f"Rests on {', '.join(piece.id for piece in pieces)}. " if pieces else ""
-    made = provenance.provenance()
-    note = f"{rests}Program SHA-256 {made.program}; commit {made.commit}; toolchain {made.toolchain}; sessions SHA-256 {held.session_hash}"
+    """The citation as entries of BibTeX: the bound's, and one for each source."""
     key = f"code-tables-{'-'.join(map(str, entry))}"
-    own = (f"@misc{{{key},\n  title = {{Bounds of a proved table of codes: ${claim}$}},\n"
-           f"  author = {{{{code\\_tables}}}},\n  howpublished = {{Output of the program code\\_tables}},\n  note = {{{escaped(note)}}}\n}}\n")
-    others = [f"@misc{{{key}-cited-{number},\n  key = {{{key}}},\n  note = {{{escaped(text)}}}\n}}\n" for number, text in enumerate(table.cited(pieces), 1)]
-    return "\n".join([own, *others])
+    entries = [own_bibtex(held, entry, key)]
+    for number, source in enumerate(sources(held, entry), 1):
+        name = f"{key}-cited-{number}"
+        entries.append(bibliography.entry("misc", name, {"key": name, "note": latex(source)}) if isinstance(source, str) else source.bibtex())
+    return "\n".join(entries)
 
 
 def read_entry(words):

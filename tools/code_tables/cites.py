@@ -9,6 +9,7 @@
 
 The program reads cites as texts, and decides nothing by them."""
 
+import unicodedata
 from collections.abc import Sequence
 from typing import Any
 
@@ -16,6 +17,26 @@ from .sessions import Refusal, quoted, texts_in
 
 # How many cites a document may have, and how many bytes each.
 MOST_CITES, LONGEST_CITE = 16, 200
+
+
+# Letters and signs that have no ASCII sign inside, as ASCII writes them.
+WRITTEN = {"ø": "o", "Ø": "O", "æ": "ae", "Æ": "Ae", "œ": "oe", "Œ": "Oe", "ß": "ss", "ł": "l", "Ł": "L", "đ": "d", "Đ": "D", "ı": "i", "þ": "th", "Þ": "Th",
+           "–": "-", "—": "-", "−": "-", "‐": "-", "‘": "'", "’": "'", "“": '"', "”": '"', "…": "...", "\u00a0": " ", "\u202f": " ", "≤": "<=", "≥": ">=", "·": "*"}
+
+
+def ascii_cite(text: str) -> str:
+    """A text as a document can cite it, in printable ASCII: a letter loses its mark, and blanks of all kinds become one.
+
+        >>> ascii_cite("P. R. J. Östergård, T. Łuczak 1999–2001")
+        'P. R. J. Ostergard, T. Luczak 1999-2001'
+
+    A letter that has no such form is refused. Whoever changes a text by it says so."""
+    plain = "".join(WRITTEN.get(sign, sign) for sign in unicodedata.normalize("NFC", text))
+    bare = " ".join("".join(sign for sign in unicodedata.normalize("NFKD", plain) if not unicodedata.combining(sign)).split())
+    other = next((sign for sign in bare if not " " <= sign <= "~"), None)
+    if other is not None:
+        raise Refusal(f"a cite has printable ASCII alone, and {ascii(other)} has no form in it: write {quoted(text)} in Latin letters")
+    return bare
 
 
 def check_cites(texts: Sequence[str]) -> None:
