@@ -3,33 +3,40 @@
 
     tools/page.py examples/library/*.session > table.html
 
-The sessions are run one behind the other. The page has the tables of A(n,d) and of A(n,d,w) for each d: each cell is coloured by its gap, has
-an anchor, as each entry of the table has one (`#a16-6`, `#a15-5`, `#a24-8-16`), and a mark for the last rule of each bound, and leads to its
-derivation, line by line with what each rule says and its source, to the pieces that this rests on, with what they cite, their remarks and
-their documents, and to what is known beside it. With --csv FILE and --json FILE all entries are written beside it as data (tools/table_data.py says how), and the page
-links to them; with --words FOLDER the words of each code of at most 16,384 words, a file each. Else the page asks for nothing from elsewhere.
-With --found FILE, what the mode `find` wrote, it is said of each bound by a dual whether the dual is the least of its form (tools/least.py).
-A refused submission is said on the page and on standard error, and ends with 1."""
+The sessions are run one behind the other. The page begins with the tables of A(n,d) and of A(n,d,w) for each d: each cell has an anchor, as each
+entry of the table has one (`#a16-6`, `#a15-5`, `#a24-8-16`), and leads to its entry (`#b16-6`): its bounds beside the published ones, and why each
+holds, step by step back to the pieces of evidence, with what these cite and their documents. A browser without JavaScript shows an entry, a
+piece and a rule where it is led to them; with it, the derivation is shown line by line with what each rule says, and documents, which are compressed
+within the page, when they are asked for. On paper an entry that is open is printed alone, else the tables. With --csv FILE and --json FILE all
+entries are written beside it as data (tools/table_data.py says how), and the page links to them; with --words FOLDER the words of each code of at
+most 16,384 words, a file each. Else the page asks for nothing from elsewhere. With --found FILE, what the mode `find` wrote, it is said of each bound
+by a dual whether the dual is the least of its form (tools/least.py). A refused submission is said on the page and on standard error, and ends with 1."""
 
 import argparse
+import base64
+import gzip
 import html
+import json
+import re
 import sys
+from dataclasses import dataclass
 from pathlib import Path
 
 import least
 import table
 import table_data
 import words_of_pieces
-from code_tables import provenance, published
+from code_tables import about, bibliography, provenance, published
 from code_tables.ending import ended
 from code_tables.sessions import Refusal, name_of
-from table import is_trivial
+from table import SIDES, is_trivial
 
 HERE = Path(__file__).resolve().parent
 CLOSE = 1.1
 MOST_WORDS = 16384
-DARK = ("color-scheme: dark; --ground: #12171d; --ink: #e4e9ee; --faint: #9aa6b2; --link: #86bdf5; --head: #222a33; --equal: #1d3f5e; --close: #544a14; "
-        "--wide: #6b3a14; --line: #56616d; --empty: #252d36; --text: #1a2129;")
+SIGN = {"lower": "≥", "upper": "≤"}
+DARK = ("color-scheme: dark; --ground: #10181b; --ink: #e6eef0; --quiet: #a3b3b9; --faint: #83939a; --accent: #8fc7d6; --head: #19252a; --close: #1a3037; "
+        "--wide: #234750; --line: #33454c; --text: #162126;")
 
 
 def style():
@@ -45,12 +52,35 @@ def anchor(entry):
 
 def gap(low, high):
     """How far apart two bounds are, in a word."""
-    return "equal" if low == high else "close" if high <= CLOSE * low else "wide"
+    return "exact" if low == high else "close" if high <= CLOSE * low else "wide"
 
 
 def said(entry, low, high):
     """The bounds of an entry as `show` writes them."""
     return f"{name_of(entry)} = {low}" if low == high else f"{low} ≤ {name_of(entry)} ≤ {high}"
+
+
+def typeset(text, has_variables=False):
+    """A text as HTML: what is between backticks as code, powers and indices raised and lowered, letters of a formula in italics."""
+    text = html.escape(text, quote=False).replace("..", "…")
+    if has_variables:
+        text = re.sub(r"(?<![A-Za-z`&])(wM|nq|qr|[b-zA-Zδ])(?=_|(?![\w;`]))", r"<i>\1</i>", text)
+    text = re.sub(r"`([^`]*)`", r"<code>\1</code>", text)
+    text = re.sub(r"\^\(([^()]*)\)|\^(\w+|<i>\w</i>)", lambda told: f"<sup>{told[1] or told[2]}</sup>", text)
+    return re.sub(r"((?<!\w)[A-Za-z]|</i>)_(?:\(([^()]*)\)|(\d+|[a-z]\b|<i>\w</i>))", lambda told: f"{told[1]}<sub>{told[2] or told[3]}</sub>", text)
+
+
+def formula(text):
+    """The name of a table, as A(n,d), as HTML."""
+    return typeset(text, has_variables=True)
+
+
+def with_works(told):
+    """A text of HTML in which each work that it names leads to the list of works."""
+    for work in bibliography.named(told):
+        name = next(name for name in (work.name, work.also) if name and name in told)
+        told = told.replace(name, f'<a href="#w-{work.key}">{name}</a>', 1)
+    return told
 
 
 def turned(entry):
@@ -93,14 +123,20 @@ def compared(entry, bounds):
     if bounds[0] == bounds[1]:
         return ["Exact, and proved here: no better bound is possible."]
     if not told:
-        return [f"Published values of this entry: {published.UNKNOWN}."]
+        return [f"Published values: {published.UNKNOWN}."]
     lines = []
-    for side, here, standing in zip(table.SIDES, bounds, table.standings(entry, bounds)):
+    for side, here, standing in zip(SIDES, bounds, table.standings(entry, bounds)):
         there = getattr(told, side)
-        remembered = "" if there is None else f"{there} is remembered as published" if standing.startswith("published only") or there != here else ""
-        source = f", {told.source}" if side == "upper" and told.source and standing.startswith("published only") else ""
-        lines.append(f"The {side} bound {here}: {standing}{source}{'; ' if remembered else ''}{remembered}.")
+        remembered = "" if there in (None, here) else f" {there} is remembered as published."
+        source = f" ({told.source})" if side == "upper" and told.source and standing.startswith("published only") else ""
+        lines.append(f"{SIGN[side]} {here}: {standing}{source}.{remembered}")
     return lines + ([f"Before it: {told.note}."] if told.note else [])
+
+
+# How a cell is read.
+KEY = ('<p class="key"><span><b class="exact">256</b>exact</span><span><b class="close">1024<br>1100</b>open: lower and upper bound, at most '
+       f'{round(100 * CLOSE - 100)} % apart</span><span><b class="wide">20<br>40</b>open, further apart</span><span><b class="wide behind">60<br>94</b>a better bound is '
+       'published</span><span><b>20480?</b>above what is remembered as published: unconfirmed</span></p>')
 
 
 def kind_of(piece):
@@ -109,24 +145,80 @@ def kind_of(piece):
     return f"{piece.kind} of {name_of(piece.entry)}{size}"
 
 
-def remarked(piece):
-    """The remarks above a piece, or that there is no source."""
-    text = " ".join(piece.remarks) or ("" if piece.cites else "No source is stated.")
-    return f"<p>{html.escape(text)}</p>" if text else ""
+def cite_line(text):
+    """A text that a document cites as HTML, leading to the work where it names one."""
+    work = bibliography.cited(text)
+    return html.escape(text, quote=False) if work is None else html.escape(text, quote=False).replace(
+        html.escape(work.cite(), quote=False), f'<a href="#w-{work.key}">{html.escape(work.cite(), quote=False)}</a>')
 
 
-def cited(piece):
-    """What the document of a piece cites, as a list; nothing where it cites nothing."""
-    texts = "".join(f"<li>{html.escape(text)}</li>" for text in piece.cites)
-    return f"<p>It cites:</p><ul>{texts}</ul>" if texts else ""
+@dataclass(frozen=True)
+class Line:
+    """A line of a derivation: its side, its entry and its value, the rule with its arguments, and the numbers of the lines that it rests on."""
+    side: str
+    entry: tuple
+    value: int
+    rule: str
+    arguments: tuple
+    premises: tuple
 
 
-# The colours of gaps, beside the words for them.
-KEY = ('<p class="key"><span><span class="equal">256<sup>L10 U9</sup></span>exact</span> '
-       f'<span><span class="close">1024<sup>L10</sup><br>1100<sup>U11</sup></span>close: the upper bound is at most {round(100 * CLOSE - 100)}% above the lower</span> '
-       '<span><span class="wide">20<sup>L3</sup><br>40<sup>U6</sup></span>wide</span></p>\n'
-       '<p>A mark is the last of the <a href="#rules">rules</a> of a bound; ? is a bound above what is remembered as published, unconfirmed. '
-       "Arrow keys go from cell to cell.</p>")
+def read_line(text):
+    """The number of a line of a derivation, and the line."""
+    words = text.split(" ")
+    stop, by = words.index("value"), words.index("by")
+    rest = words.index("from") if "from" in words else len(words)
+    return int(words[1]), Line(words[2], tuple(map(int, words[3:stop])), int(words[stop + 1]), words[by + 1], tuple(words[by + 2:rest]),
+                               tuple(map(int, words[rest + 1:])))
+
+
+class Steps:
+    """The last steps of derivations: each leads back to entries that have steps of their own, and so on to the pieces.
+
+    A premise leads to the steps of its entry where these are of the same bound; else its line stands among the steps."""
+
+    def __init__(self, held, entries):
+        self.held, self.entries, self.whole = held, set(entries), set()
+        self.read = {slot: dict(map(read_line, found.lines)) for slot, found in held.derivations.items()}
+        self.find_rings()
+
+    def leads(self, slot, line):
+        """Whether a premise of a slot's derivation leads to the steps of its own entry."""
+        return slot not in self.whole and line.entry in self.entries and (line.side, line.entry) in self.read and \
+            line.value == self.held.bounds[line.entry][SIDES.index(line.side)]
+
+    def of(self, slot):
+        """The lines that stand under an entry, the last one last, each with its premises: a number of one of these lines, or a line."""
+        lines, found, numbers = self.read[slot], [], {}
+
+        def take(number):
+            if number not in numbers:
+                line = lines[number]
+                premises = [lines[premise] if self.leads(slot, lines[premise]) else take(premise) for premise in line.premises]
+                found.append((line, premises))
+                numbers[number] = len(found)
+            return numbers[number]
+
+        if lines:
+            take(max(lines))
+        return found
+
+    def find_rings(self):
+        """Has derivations that would lead back to themselves stand whole."""
+        done = set()
+        for first in self.read:
+            path, left = [], [(first, False)]
+            while left:
+                slot, is_behind = left.pop()
+                if is_behind:
+                    path.pop()
+                    done.add(slot)
+                elif slot in path:
+                    self.whole.add(path[-1])
+                elif slot not in done:
+                    path.append(slot)
+                    left.append((slot, True))
+                    left += [((line.side, line.entry), False) for _, premises in self.of(slot) for line in premises if isinstance(line, Line)]
 
 
 class Page:
@@ -135,7 +227,8 @@ class Page:
 
     def __init__(self, held, data=(), words=None, found=None):
         self.held, self.data, self.words, self.found, self.out = held, data, words or {}, found or {}, []
-        self.linked = {f"a{anchor(entry)}" for entry in shown() if not is_trivial(entry)}
+        self.linked = {entry for entry in shown() if not is_trivial(entry)}
+        self.steps = Steps(held, self.linked)
 
     def put(self, *lines):
         self.out.extend(lines)
@@ -148,15 +241,16 @@ class Page:
 
     def cell(self, entry):
         """The cell of an entry, which is also that of the entry with each digit turned."""
-        low, high = self.held.bounds[entry]
+        low, high = bounds = self.held.bounds[entry]
         other = turned(entry)
-        also = f'<span id="a{anchor(other)}"></span>' if other else ""
+        also = f'<i id="a{anchor(other)}"></i>' if other else ""
         if is_trivial(entry):
-            return f'<td id="a{anchor(entry)}" class="trivial">{also}1</td>'
-        doubt = '<sup title="above what is remembered as published: unconfirmed">?</sup>' if is_unconfirmed(entry, (low, high)) else ""
-        text = f"{low}{doubt}{self.mark(entry, 'lower', 'upper')}" if low == high else \
-            f"{low}{doubt}{self.mark(entry, 'lower')}<br>{high}{self.mark(entry, 'upper')}"
-        return f'<td id="a{anchor(entry)}" class="{gap(low, high)}">{also}<a href="#b{anchor(entry)}" title="{said(entry, low, high)}">{text}</a></td>'
+            return f'<td id="a{anchor(entry)}" class="one">{also}1</td>'
+        kinds = [gap(low, high)] * (low < high) + ["behind"] * is_behind(entry, bounds)
+        doubt = "?" * is_unconfirmed(entry, bounds)
+        text = f"{low}{doubt}{self.mark(entry, *SIDES)}" if low == high else f"{low}{doubt}{self.mark(entry, 'lower')}<br>{high}{self.mark(entry, 'upper')}"
+        of = f' class="{" ".join(kinds)}"' if kinds else ""
+        return f'<td id="a{anchor(entry)}"{of}>{also}<a href="#b{anchor(entry)}">{text}</a></td>'
 
     def grid(self, name, caption, columns, rows):
         """A table: rows are lengths with the entries of their columns, or nothing."""
@@ -167,147 +261,175 @@ class Page:
             self.put(f'<tr><th scope="row">{n}</th>{cells}</tr>')
         self.put("</tbody></table></div>")
 
-    def plain(self, place, title, more, distances):
-        """A table without weight, with its derivations."""
-        self.put(f'<h2 id="{place}">{title}</h2>', *more)
-        self.grid("n \\ d", f"Table of {title}", distances, [(n, [(n, d) for d in distances]) for n in table.LENGTHS])
-        self.folded(title, shown_plain(distances))
+    def plain(self, place, title, distances):
+        """A table without weight."""
+        self.put(f'<section id="{place}"><h2>{formula("A(n,d)")}{title}</h2>')
+        self.grid("<i>n</i> \\ <i>d</i>", f"Table of A(n,d){title}", distances, [(n, [(n, d) for d in distances]) for n in table.LENGTHS])
+        self.put("" if title else KEY, "</section>")
 
     def weighted(self, d):
-        """The table of a distance, with its derivations. What has no cell has an anchor above."""
-        entries = shown_weighted(d)
-        placed = {*entries, *map(turned, entries)}
-        ones = [(n, d, w) for n in table.LENGTHS for w in range(n + 1) if (n, d, w) not in placed]
-        places = "".join(f'<span id="a{anchor(entry)}"></span>' for entry in ones)
-        self.put(f'<h2 id="weight{d}">A(n,{d},w)</h2>', f"<p>A(n,{d},w) = A(n,{d},n−w), so each cell is that of both. Entries with w or n − w below "
-                 f"{d // 2}, which have no cell, are 1: two such words are never at distance {d}.{places}</p>")
+        """The table of a distance."""
         weights = range(d // 2, table.LAST // 2 + 1)
-        self.grid("n \\ w", f"Table of A(n,{d},w)", weights, [(n, [(n, d, w) if w <= n // 2 else None for w in weights]) for n in table.LENGTHS if n >= d])
-        self.folded(f"A(n,{d},w)", entries)
+        self.put(f'<section id="weight{d}"><h2>{formula(f"A(n,{d},w)")}</h2>')
+        self.grid("<i>n</i> \\ <i>w</i>", f"Table of A(n,{d},w)", weights, [(n, [(n, d, w) if w <= n // 2 else None for w in weights]) for n in table.LENGTHS if n >= d])
+        self.put("</section>")
 
-    # ---- the reasons
-    def folded(self, name, entries):
-        """The derivations of a table, folded."""
-        self.put(f"<details><summary>Derivations of {name}</summary>")
-        for entry in entries:
-            if not is_trivial(entry):
-                self.entry(entry)
-        self.put("</details>")
+    def without_cells(self):
+        """The anchors of the entries that have no cell: such an entry is 1."""
+        cells = {*shown(), *filter(None, map(turned, shown()))}
+        places = "".join(f'<i id="a{anchor(entry)}"></i>' for entry in table.entries() if entry not in cells)
+        self.put(f'<p class="ones">An entry without a cell is 1: no two words of its weight are far enough apart.{places}</p>')
 
+    # ---- the entries
     def entry(self, entry):
-        """What the bounds of an entry rest on and what is known beside it, folded."""
-        low, high = self.held.bounds[entry]
-        self.put(f'<details id="b{anchor(entry)}"><summary>{said(entry, low, high)}</summary>')
-        self.put(f'<p class="known">{self.known(entry, low, high)}</p>')
-        ids = []
-        for side in ("lower", "upper"):
-            found = self.held.derivations.get((side, entry))
-            if found:
-                ids += found.ids
-                self.put(f'<ol class="derivation">{"".join(map(self.line, found.lines))}</ol>')
-        self.least(entry)
-        if not any((side, entry) in self.held.derivations for side in ("lower", "upper")):
-            self.put("<p>This build of the program gives no derivations.</p>")
-        pieces = table.resting(self.held, dict.fromkeys(ids))
-        if pieces:
-            self.put("<ul>" + "".join(f"<li>{self.named(piece)}{cited(piece)}</li>" for piece in pieces) + "</ul>")
-        self.put(f'<p><a href="#a{anchor(entry)}">to the table</a></p></details>')
-
-    def least(self, entry):
-        """Whether the dual of the upper bound is the least of its form."""
+        """What the bounds of an entry rest on and what is known beside it."""
+        low, high = bounds = self.held.bounds[entry]
+        known = with_works(html.escape("\n".join(compared(entry, bounds)), quote=False)).replace("\n", "<br>")
+        self.put(f'<article id="b{anchor(entry)}"><a class="x" href="#a{anchor(entry)}">×</a><h3>{said(entry, low, high)}</h3><p>{known}</p>')
+        for side in SIDES:
+            if (side, entry) in self.held.derivations:
+                self.put(f'<ol class="{side}">{"".join(self.step(*step) for step in self.steps.of((side, entry)))}</ol>')
         told = least.said(self.held, entry, self.found)
         if told:
             self.put(f'<p class="least">{html.escape(told)}</p>')
+        if not any((side, entry) in self.held.derivations for side in SIDES):
+            self.put("<p>This build of the program gives no derivations.</p>")
+        self.put("</article>")
 
-    def known(self, entry, low, high):
-        """What is known beside the bounds of an entry."""
-        return html.escape(" ".join(compared(entry, (low, high))))
+    def step(self, line, premises):
+        """A step as an item of a list."""
+        arguments = "".join(f' <a href="#p-{word}">{word}</a>' if word in self.held.pieces else f" {word}" for word in line.arguments)
+        behind = ", ".join(f"<b>{premise}</b>" if isinstance(premise, int) else
+                           f'<a href="#b{anchor(premise.entry)}">{name_of(premise.entry)} {SIGN[premise.side]} {premise.value}</a>' for premise in premises)
+        return (f'<li>{name_of(line.entry)} {SIGN[line.side]} {line.value} by <a href="#{self.rule_place(line.rule, line.entry)}">{line.rule}</a>{arguments}'
+                f'{" from " + behind if behind else ""}</li>')
 
-    def line(self, text):
-        """A line of a derivation as a sentence: its claim, the rule, what it rests on, and what the rule says and why."""
-        words = text.split(" ")
-        stop, by = words.index("value"), words.index("by")
-        entry, rule, rest = tuple(map(int, words[3:stop])), words[by + 1], words[by + 2:]
-        place = next((one for one in (entry, turned(entry)) if one and f"a{anchor(one)}" in self.linked), None)
-        name = f'<a href="#b{anchor(place)}">{name_of(entry)}</a>' if place else name_of(entry)
-        behind = " ".join(f'<a href="#p-{word}">{word}</a>' if word in self.held.pieces and i == 0 else word for i, word in enumerate(rest))
-        row = table.rule_row(rule, entry)
-        return (f'<li>{name} {"≥" if words[2] == "lower" else "≤"} {words[stop + 1]} by <a href="#r-{rule}">{rule}</a>{" " + behind if behind else ""}: '
-                f'<span class="why">{self.sentence(row)}</span></li>')
+    def rule_place(self, rule, entry):
+        """The name of the place of a rule, in the case of an entry."""
+        at = table.rules()[rule].index(table.rule_row(rule, entry))
+        return f"r-{rule}" + (f"-{at + 1}" if at else "")
 
-    def sentence(self, row):
-        """What a rule says in a case, where, and its source."""
-        return html.escape(f"{row['says']} ({row['where']}): {row['source']}")
-
-    def named(self, piece):
-        """A piece in a line."""
-        return f'<a href="#p-{piece.id}">{piece.id}</a> ({kind_of(piece)}): {html.escape(piece.title)}'
-
-    # ---- the pieces, the rules and the numbers
+    # ---- the pieces, the rules and the works
     def pieces(self):
-        """All pieces, with their titles, remarks, cites, parts and documents."""
-        self.put('<h2 id="pieces">Pieces of evidence</h2>', "<p>Each was checked by the program: every word and every distance, every inequality of a dual. A "
-                 "document is handed in again by <code>submit</code> as it stands, with a line <code>end</code> below it.</p>", "<ul>")
+        """All pieces, with their titles, remarks, cites and parts. Their documents are compressed, behind all else."""
         for piece in self.held.pieces.values():
             parts = ", ".join(f'<a href="#p-{part}">{part}</a>' for part in piece.parts)
+            cited = "".join(f"<li>{cite_line(text)}</li>" for text in piece.cites)
+            remarks = " ".join(piece.remarks)
+            more = remarks.removeprefix(piece.title).lstrip(".;: ")
+            more = more[:1].upper() + more[1:]
             words = f'<p><a href="{self.words[piece.id]}" download>its words</a>, a line each</p>' if piece.id in self.words else ""
-            self.put(f'<li id="p-{piece.id}"><details><summary><strong>{html.escape(piece.title)}</strong>: {piece.id}, {kind_of(piece)}</summary>',
-                     remarked(piece), cited(piece), f"<p>Built from {parts}</p>" if parts else "", words,
-                     f'<p class="take" data-name="{piece.id}.toml"></p><pre>{html.escape(piece.document)}</pre></details></li>')
-        self.put("</ul>")
+            self.put(f'<article id="p-{piece.id}" class="piece"><a class="x" href="#pieces">×</a><h3>{typeset(piece.title)}</h3><p><code>{piece.id}</code>: {kind_of(piece)}</p>',
+                     f"<p>{typeset(more)}</p>" if more else "" if piece.cites or remarks else "<p>No source is stated.</p>", f"<p>It cites</p><ul>{cited}</ul>" if cited else "",
+                     f"<p>Built from {parts}</p>" if parts else "", words, "</article>")
+
+    def documents(self):
+        """The documents of all pieces, compressed."""
+        text = json.dumps({piece.id: piece.document for piece in self.held.pieces.values()}, ensure_ascii=False).encode("utf-8", "surrogateescape")
+        return base64.b64encode(gzip.compress(text, 9, mtime=0)).decode()
+
+    def index(self):
+        """The list of all pieces by their ids."""
+        links = " ".join(f'<a href="#p-{piece.id}">{piece.id}</a>' for piece in self.held.pieces.values())
+        self.put(f'<section id="pieces"><h2>Pieces of evidence</h2><p>The program checked each of these {len(self.held.pieces)}: every word and every distance, every '
+                 "inequality of a dual. A document is submitted again as it is, by <code>submit</code> above it and a line <code>end</code> below it; without "
+                 f'JavaScript it is found by its name in the sessions of the library.</p><p class="ids">{links}</p></section>')
 
     def rules(self):
         """All rules, with their sentences and sources."""
-        self.put('<h2 id="rules">Rules</h2>', "<p>Each is proved to be true of all codes. A mark in a cell is the last rule of a bound.</p>", "<dl>")
+        self.put('<section id="rules"><h2>Rules</h2><p>Each is proved to be true of all codes.</p><dl>')
         for rule, rows in table.rules().items():
             for at, row in enumerate(rows):
-                place = "" if at else f' id="r-{rule}"'
-                self.put(f"<dt{place}>{rule}</dt><dd>{self.sentence(row)}</dd>")
-        self.put("</dl>")
+                place = f"r-{rule}" + (f"-{at + 1}" if at else "")
+                self.put(f'<dt id="{place}">{rule}</dt><dd>{formula(row["says"])} ({formula(row["where"])}): {with_works(formula(row["source"]))}</dd>')
+        self.put("</dl></section>")
 
-    def totals(self):
-        """What the table holds, in numbers, and what it was made by."""
-        self.put('<h2 id="totals">Totals</h2>', "<dl>")
+    def works(self):
+        """The works that are cited."""
+        self.put('<section id="works"><h2>Works</h2><p>Of some no more is recorded than authors and year.</p><ul>')
+        for work in bibliography.works().values():
+            self.put(f'<li id="w-{work.key}">{html.escape(work.text(), quote=False)}</li>')
+        self.put("</ul></section>")
+
+    # ---- what stands around
+    def numbers(self):
+        """What the table holds, in numbers."""
         for name, length in (("A(n,d)", 2), ("A(n,d,w)", 3)):
             kinds = [gap(*bounds) for entry, bounds in self.held.bounds.items() if len(entry) == length]
-            numbers = {kind: kinds.count(kind) for kind in ("equal", "close", "wide")}
-            self.put(f"<dt>{name}</dt><dd>{len(kinds)} entries: {numbers['equal']} exact, {numbers['close']} close, {numbers['wide']} wide</dd>")
+            numbers = {kind: kinds.count(kind) for kind in ("exact", "close", "wide")}
+            yield f"{formula(name)}: {len(kinds)} entries, {numbers['exact']} exact, {numbers['close']} close, {numbers['wide']} wide"
+
+    def bibtex(self):
+        """How the table is cited."""
         made = provenance.provenance()
-        for name, value in (("Evidence", f"{len(self.held.pieces)} pieces"), ("Made on", table_data.today()), ("Sessions (SHA-256)", self.held.session_hash),
-                            ("Program (SHA-256)", made.program), ("Program (commit)", made.commit), ("Toolchain", made.toolchain)):
-            self.put(f"<dt>{name}</dt><dd>{html.escape(value)}</dd>")
-        if self.data:
-            links = ", ".join(f'<a href="{html.escape(name)}">{html.escape(name)}</a>' for name in self.data)
-            self.put(f"<dt>As data</dt><dd>{links}</dd>")
-        self.put("</dl>")
+        return bibliography.entry("misc", "code-tables", {
+            "author": f"{{{bibliography.latex(about.AUTHOR)}}}", "title": f"{{{bibliography.latex(about.TITLE)}}}", "year": table_data.today()[:4], "version": about.VERSION,
+            "note": bibliography.latex(f"Version {about.VERSION}, {table_data.today()}. Program SHA-256 {made.program}, commit {made.commit}. Sessions SHA-256 {self.held.session_hash}")})
+
+    def about(self):
+        """What the page is, how to read it and to cite it, and by whom it is."""
+        data = ", ".join(f'<a href="{html.escape(name)}">{html.escape(name)}</a>' for name in self.data)
+        self.put('<section id="about"><h2>About this table</h2>',
+                 f"<p>{formula('A(n,d)')} is the greatest number of binary words of length <i>n</i> any two of which differ in at least <i>d</i> places; {formula('A(n,d,w)')} is the same for "
+                 f"words of weight <i>w</i>. {formula('A(n−1,d−1)')} = {formula('A(n,d)')} for even <i>d</i>, and {formula('A(n,d,w)')} = {formula('A(n,d,n−w)')}; an entry without a cell is 1. Each bound is "
+                 "the best that the rules of the table give from the pieces of evidence below, and was written by a program that is proved. This page only shows it, and is not.</p>",
+                 f"<p>{published.REMEMBERED} They are compared to length {published.LONGEST}. Arrow keys go from cell to cell.</p>",
+                 f"<ul>{''.join(f'<li>{line}</li>' for line in self.numbers())}</ul>",
+                 f"<p>As data: {data}</p>" if data else "", "</section>",
+                 '<section id="cite"><h2>How to cite</h2><p>The table as below; one bound, with all that it rests on, by <code>tools/cite.py N D</code> or <code>tools/cite.py N D W</code> '
+                 f"and the sessions.</p><pre>{html.escape(self.bibtex(), quote=False)}</pre></section>")
+
+    def foot(self):
+        """By whom it is, and what it was made by."""
+        made = provenance.provenance()
+        rows = [("Author", about.AUTHOR), ("Licence", about.LICENSE), ("Version", about.VERSION), ("Made on", table_data.today()), ("Sessions (SHA-256)", self.held.session_hash),
+                ("Program (SHA-256)", made.program), ("Program (commit)", made.commit), ("Toolchain", made.toolchain)]
+        self.put("<footer><dl>", *(f"<dt>{name}</dt><dd>{html.escape(value)}</dd>" for name, value in rows), "</dl></footer>")
 
     def head(self):
         """What stands above the tables."""
+        weights = "".join(f'<a href="#weight{d}">{formula(f"A(n,{d},w)")}</a>' for d in table.EVEN)
         self.put("<!DOCTYPE html>", '<html lang="en"><head><meta charset="utf-8"><meta name="viewport" content="width=device-width, initial-scale=1">',
-                 f"<title>Bounds of A(n,d) and A(n,d,w)</title><style>{style()}</style></head><body>", "<h1>Bounds of A(n,d) and A(n,d,w)</h1>",
-                 "<p>A(n,d) is the greatest number of binary words of length n of which each two differ in at least d places; A(n,d,w) is the same "
-                 "for words of weight w. Each bound here is the best that the rules of the table give from the pieces of evidence below. It was "
-                 "written by a program that is proved; this page only shows it, and is not.</p>")
-        self.put('<nav aria-label="Contents"><a href="#plain">A(n,d)</a>' + "".join(f'<a href="#weight{d}">A(n,{d},w)</a>' for d in table.EVEN)
-                 + '<a href="#odd">odd d</a><a href="#rules">Rules</a><a href="#pieces">Pieces</a><a href="#totals">Totals</a></nav>')
-        self.put('<form class="tools" id="go" hidden><label>go to <input name="entry" placeholder="24 8 8" autocomplete="off"></label> <button>go</button> '
-                 '<button type="button" id="shade" hidden>light or dark</button> <output></output></form>')
-        self.put(KEY)
+                 f"<title>Bounds on A(n,d) and A(n,d,w)</title><style>{style()}</style></head><body>",
+                 f"<header><h1>Bounds on {formula('A(n,d)')} and {formula('A(n,d,w)')}</h1>",
+                 "<p>The most binary words of length <i>n</i>, any two at distance at least <i>d</i>; with <i>w</i>, all of weight <i>w</i>.</p>",
+                 f'<nav aria-label="Contents"><a href="#plain">{formula("A(n,d)")}</a>{weights}<a href="#odd">odd <i>d</i></a><a href="#about">About</a><a href="#cite">Cite</a>'
+                 '<a href="#rules">Rules</a><a href="#pieces">Pieces</a><a href="#works">Works</a></nav>',
+                 '<form id="go"><span class="choice"><label><input type="radio" name="show" id="all" checked><span>all</span></label><label><input type="radio" name="show" id="open">'
+                 '<span>open</span></label><label><input type="radio" name="show" id="published"><span>published is better</span></label></span>'
+                 '<label class="switch"><input type="checkbox" id="marks"> rules</label>'
+                 '<span class="live" hidden><label>go to <input name="entry" placeholder="24 8 8" autocomplete="off" inputmode="numeric"></label> <button>go</button> '
+                 '<button type="button" id="shade">light or dark</button></span> <output></output></form></header>')
         for command, reply in self.held.refused:
             self.put(f"<p><strong>Not on this page:</strong> {html.escape(' '.join(command.words))} was answered {html.escape(reply)}.</p>")
 
     def text(self):
-        """The whole page."""
+        """The whole page: all that its first view needs comes first."""
         self.head()
-        self.totals()
-        self.plain("plain", "A(n,d) for even d", ["<p>A(n−1,d−1) = A(n,d) for even d: odd distances stand at the end.</p>"], table.EVEN)
+        self.put("<main>")
+        self.plain("plain", "", table.EVEN)
         for d in table.EVEN:
             self.weighted(d)
-        self.plain("odd", "A(n,d) for odd d", [], ODD)
+        self.plain("odd", " for odd <i>d</i>", ODD)
+        self.about()
+        self.put(BEHIND)
         self.rules()
+        self.works()
+        self.index()
+        self.without_cells()
+        self.put("</main>")
+        self.foot()
+        for entry in shown():
+            if entry in self.linked:
+                self.entry(entry)
         self.pieces()
-        self.put(f"<script>{(HERE / 'page.js').read_text('utf-8')}</script></body></html>")
+        self.put(f'<script type="text/plain" id="documents">{self.documents()}</script>',
+                 f"<script>{(HERE / 'page.js').read_text('utf-8')}</script></body></html>")
         return "\n".join(line for line in self.out if line) + "\n"
+
+
+# What stands before it is all that the first view of the page needs.
+BEHIND = "<!-- behind the first view -->"
 
 
 def beside(path):
@@ -338,7 +460,7 @@ def main():
     try:
         found = least.read(options.found) if options.found else None
         entries = table.entries() if options.csv or options.json else [entry for entry in shown() if not is_trivial(entry)]
-        asked = [] if options.without_derivations else [f"explain {side} {' '.join(map(str, entry))}" for entry in entries for side in ("lower", "upper")]
+        asked = [] if options.without_derivations else [f"explain {side} {' '.join(map(str, entry))}" for entry in entries for side in SIDES]
         held = table.held(table.read_sessions(options.sessions), table.ask_all() + asked)
         names = [beside(path) for path in (options.csv, options.json, options.schema) if path]
         text = Page(held, names, write_words(options.words, held) if options.words else None, found).text()
