@@ -35,15 +35,20 @@ const derive = (steps, lines, numbers) => {
   return lines.length;
 };
 const unfold = entry => {
-  for (const steps of [...entry.querySelectorAll("ol:not([data-whole], .whole)")]) {
+  if (entry.dataset.whole) return;
+  entry.dataset.whole = "yes";
+  for (const steps of [...entry.querySelectorAll("ol")]) {
     const lines = [], whole = document.createElement("ol");
     derive(steps, lines, new Map());
     whole.className = "whole";
     whole.append(...lines);
-    steps.dataset.whole = "";
     steps.hidden = true;
     steps.after(whole);
   }
+  const cite = document.createElement("p"), command = document.createElement("code");
+  command.textContent = `tools/cite.py ${entry.id.slice(1).replaceAll("-", " ")} SESSION ..`;
+  cite.append("It is cited with all that it rests on by ", command);
+  entry.append(cite);
 };
 
 // The documents of the pieces, which are compressed until one is asked for.
