@@ -64,7 +64,7 @@ def typeset(text, has_variables=False):
     """A text as HTML: what is between backticks as code, powers and indices raised and lowered, letters of a formula in italics."""
     text = html.escape(text, quote=False).replace("..", "…")
     if has_variables:
-        text = re.sub(r"(?<![A-Za-z`&'])(wM|nq|qr|[b-zA-Zδ])(?=_|(?![\w;`]))", r"<i>\1</i>", text)
+        text = re.sub(r"(?<![A-Za-z`&'])(wM|nq|qr|[b-zA-Zδ])(?=_|(?![\w`]))", r"<i>\1</i>", text)
     text = re.sub(r"`([^`]*)`", r"<code>\1</code>", text)
     text = re.sub(r"\^\(([^()]*)\)|\^(\w+|<i>\w</i>)", lambda told: f"<sup>{told[1] or told[2]}</sup>", text)
     return re.sub(r"((?<!\w)[A-Za-z]|</i>)_(?:\(([^()]*)\)|(\d+|[a-z]\b|<i>\w</i>))", lambda told: f"{told[1]}<sub>{told[2] or told[3]}</sub>", text)

@@ -56,7 +56,7 @@ class Least(unittest.TestCase):
         shown = page.Page(held(dual([20, 20, 6, 4, 1]), 256), found={reply.entry: reply for reply in replies(PLAIN)})
         shown.entry((16, 6))
         text = "\n".join(shown.out)
-        self.assertRegex(text, '(?s)<ol class="derivation">.*</ol>\n<p class="least">The dual k16 is the least of its form')
+        self.assertRegex(text, '(?s)<ol class="upper">.*</ol>\n<p class="least">The dual k16 is the least of its form')
 
     def test_a_page_takes_what_find_wrote(self):
         with tempfile.TemporaryDirectory() as folder:

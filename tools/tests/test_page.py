@@ -98,7 +98,7 @@ class Page(unittest.TestCase):
     def test_formulas_are_typeset(self):
         for text, shown in [("A(n,d) ≤ 2^n", "<i>A</i>(<i>n</i>,<i>d</i>) ≤ 2<sup><i>n</i></sup>"), ("2^(n/2−1)·A", "2<sup><i>n</i>/2−1</sup>·<i>A</i>"),
                             ("c_0 + y_i·K_10", "<i>c</i><sub>0</sub> + <i>y</i><sub><i>i</i></sub>·<i>K</i><sub>10</sub>"), ("the piece's 2i < a & wM", "the piece's 2<i>i</i> &lt; a &amp; <i>wM</i>"),
-                            ("of kind `dual`, c_0..c_1", "of kind <code>dual</code>, <i>c</i><sub>0</sub>…<i>c</i><sub>1</sub>")]:
+                            ("of n; `dual`, c_0..c_1", "of <i>n</i>; <code>dual</code>, <i>c</i><sub>0</sub>…<i>c</i><sub>1</sub>")]:
             self.assertEqual(page.formula(text), shown)
         self.assertEqual(page.typeset("N. J. A. Sloane, x^11, two_words"), "N. J. A. Sloane, x<sup>11</sup>, two_words")
         self.assertNotRegex(re.sub("<script.*?</script>|<style>.*?</style>|<code>.*?</code>|<pre>.*?</pre>", "", self.text, flags=re.S), r"\^|[cyK]_")

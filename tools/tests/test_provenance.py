@@ -65,7 +65,7 @@ class Origin(unittest.TestCase):
         out, _, status = run("cite.py", 10, 6, DATA / "page/small.session")
         self.assertEqual(status, 0)
         self.assertIn(f"program    code_tables, SHA-256 {sum_of(self.program)}\ncommit     0123abcd\ntoolchain  kit-1 logic 2\n", out)
-        self.assertIn(f"Program SHA-256 {sum_of(self.program)}; commit 0123abcd; toolchain kit-1 logic 2; sessions", out)
+        self.assertIn(f"Program SHA-256 {sum_of(self.program)}, commit 0123abcd, toolchain kit-1 logic 2. Sessions", out)
 
     def checkout(self):
         """A repository with the launcher, one crate and a false rt; nothing in it is proved."""
