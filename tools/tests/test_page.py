@@ -9,6 +9,7 @@ import shutil
 import subprocess
 import tempfile
 import unittest
+from functools import cached_property
 from html.parser import HTMLParser
 from pathlib import Path
 
@@ -20,6 +21,22 @@ import table
 from code_tables.sessions import name_of
 
 SMALL = DATA / "page/small.session"
+
+
+# What is tried in a browser: each says something in a list.
+SCRIPTS = {
+    "keys": "const go = text => { document.querySelector('[name=entry]').value = text; document.getElementById('go').requestSubmit(); said.push(location.hash); };"
+            " const key = name => { document.activeElement.dispatchEvent(new KeyboardEvent('keydown', {key: name, bubbles: true})); said.push(document.activeElement.closest('td').id); };"
+            " go('A(24,8,16)'); go('30 31'); said.push(document.querySelector('output').textContent); go('16 6'); key('ArrowRight'); key('ArrowDown'); key('ArrowLeft'); key('ArrowUp');"
+            " document.getElementById('shade').click(); said.push(document.documentElement.dataset.theme);",
+    "line_by_line": "location.hash = '#b10-6'; await new Promise(done => setTimeout(done, 300)); said.push(document.querySelector('#b10-6 ol.whole').textContent);",
+    "documents_when_asked_for": "const piece = document.getElementById('p-hexa'); said.push(!!piece.querySelector('pre')); location.hash = '#p-hexa';"
+                                " await new Promise(done => setTimeout(done, 500)); said.push(piece.querySelector('pre').textContent.slice(0, 14));",
+    "without_scripts_what_is_led_to_is_seen":
+        "const frame = document.createElement('iframe'); frame.sandbox = 'allow-same-origin'; frame.srcdoc = document.documentElement.outerHTML; document.body.append(frame);"
+        " await new Promise(done => frame.onload = done); frame.contentWindow.location.hash = '#b10-7'; await new Promise(done => setTimeout(done, 300));"
+        " const of = id => frame.contentDocument.getElementById(id); said.push(of('b10-7').checkVisibility(), of('b10-6').checkVisibility(), of('b10-7').querySelectorAll('ol.whole').length);",
+}
 
 
 class Reader(HTMLParser):
@@ -195,40 +212,34 @@ class Page(unittest.TestCase):
         self.holds("@media screen and (prefers-color-scheme: dark) { :root:not([data-theme=light])")
         self.holds(":root[data-theme=dark] {")
 
-    def shown(self, script, before=lambda text: text):
-        """The page as a browser has it after a script."""
-        script = f"<script>addEventListener('load', async () => {{ const said = []; {script} document.body.textContent = ''; document.title = said.join(' | '); }});</script>"
+    @cached_property
+    def in_a_browser(self):
+        """What each of the scripts says of the page in a browser."""
+        parts = "".join(f"{{ const said = all.{name} = []; {script} }}" for name, script in SCRIPTS.items())
+        script = f"<script>addEventListener('load', async () => {{ const all = {{}}; {parts} document.body.textContent = ''; document.title = JSON.stringify(all); }});</script>"
         with tempfile.TemporaryDirectory(ignore_cleanup_errors=True) as folder:
             file = Path(folder) / "page.html"
-            file.write_text(before(self.text).replace("</body>", script + "</body>"))
+            file.write_text(self.text.replace("</body>", script + "</body>"))
             words = [shutil.which("chromium"), "--headless=new", "--no-sandbox", "--disable-gpu", f"--user-data-dir={folder}/home", "--virtual-time-budget=5000", "--dump-dom",
                      file.as_uri()]
-            return re.search("<title>(.*?)</title>", subprocess.run(words, capture_output=True, text=True).stdout, re.S)[1]
+            shown = subprocess.run(words, capture_output=True, text=True).stdout
+        return json.loads(html.unescape(re.search("<title>(.*?)</title>", shown, re.S)[1]))
 
     @needs("chromium")
-    def test_field_and_arrow_keys(self):
-        script = ("const go = text => { document.querySelector('[name=entry]').value = text; document.getElementById('go').requestSubmit(); said.push(location.hash); };"
-                  " const key = name => { document.activeElement.dispatchEvent(new KeyboardEvent('keydown', {key: name, bubbles: true}));"
-                  " said.push(document.activeElement.closest('td').id); };"
-                  " go('A(24,8,16)'); go('30 31'); said.push(document.querySelector('output').textContent); go('16 6'); key('ArrowRight'); key('ArrowDown');"
-                  " key('ArrowLeft'); key('ArrowUp'); document.getElementById('shade').click(); said.push(document.documentElement.dataset.theme);")
-        self.assertEqual(self.shown(script), "#a24-8-16 | #a24-8-16 | The table has no such entry. | #a16-6 | a16-8 | a17-8 | a17-6 | a16-6 | dark")
+    def test_in_a_browser(self):
+        for name, said in [("keys", ["#a24-8-16", "#a24-8-16", "The table has no such entry.", "#a16-6", "a16-8", "a17-8", "a17-6", "a16-6", "dark"]),
+                           ("line_by_line", ["A(10,6) ≥ 1 by L10 hexaA(n,d) is at least the number of words of the piece (the entry of a piece): the piece's words are a code of the entry"]),
+                           ("documents_when_asked_for", [False, 'kind = "words"']), ("without_scripts_what_is_led_to_is_seen", [True, False, 0])]:
+            with self.subTest(name):
+                self.assertEqual(self.in_a_browser[name], said)
 
     @needs("chromium")
-    def test_a_derivation_is_shown_line_by_line_and_a_document_when_asked_for(self):
-        script = ("const after = async hash => { location.hash = hash; await new Promise(done => setTimeout(done, 500)); };"
-                  " await after('#b10-6'); const whole = document.querySelector('#b10-6 ol.whole'); said.push(whole.textContent);"
-                  " said.push(document.querySelector('#p-hexa pre')); await after('#p-hexa'); said.push(document.querySelector('#p-hexa pre').textContent.slice(0, 14));")
-        self.assertEqual(self.shown(script), "A(10,6) ≥ 1 by L10 hexaA(n,d) is at least the number of words of the piece (the entry of a piece): the piece's words are a code "
-                         "of the entry |  | kind = \"words\"")
-
-    @needs("chromium")
-    def test_without_scripts_what_is_led_to_is_seen(self):
-        style = ("const frame = document.createElement('iframe'); frame.sandbox = 'allow-same-origin'; frame.srcdoc = document.documentElement.outerHTML; document.body.append(frame);"
-                 " await new Promise(done => frame.onload = done); frame.contentWindow.location.hash = '#b10-6'; await new Promise(done => setTimeout(done, 500));"
-                 " const of = id => frame.contentDocument.getElementById(id); said.push(of('b10-6').checkVisibility(), of('b10-7').checkVisibility(),"
-                 " of('b10-6').querySelectorAll('ol.whole').length);")
-        self.assertEqual(self.shown(style), "true | false | 0")
+    def test_an_entry_that_is_open_is_printed_alone(self):
+        with tempfile.TemporaryDirectory(ignore_cleanup_errors=True) as folder:
+            (Path(folder) / "page.html").write_text(self.text)
+            subprocess.run([shutil.which("chromium"), "--headless=new", "--no-sandbox", "--disable-gpu", f"--user-data-dir={folder}/home", f"--print-to-pdf={folder}/page.pdf",
+                            (Path(folder) / "page.html").as_uri() + "#b10-6"], capture_output=True)
+            self.assertEqual(len(re.findall(rb"/Type\s*/Page\b", (Path(folder) / "page.pdf").read_bytes())), 1)
 
     def test_the_totals(self):
         self.assertRegex(self.text, r"<li><i>A</i>\(<i>n</i>,<i>d</i>\): 840 entries, \d+ exact")
