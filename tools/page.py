@@ -175,7 +175,7 @@ def read_line(text):
 class Steps:
     """The last steps of derivations: each leads back to entries that have steps of their own, and so on to the pieces.
 
-    A premise leads to the steps of its entry where these are of the same bound; else its line stands among the steps."""
+    A premise leads to the steps of its entry where these are of the same bound; else its line is one of the steps."""
 
     def __init__(self, held, entries):
         self.held, self.entries, self.whole = held, set(entries), set()
@@ -351,7 +351,7 @@ class Page:
             self.put(f'<li id="w-{work.key}">{html.escape(work.text(), quote=False)}</li>')
         self.put("</ul></section>")
 
-    # ---- what stands around
+    # ---- what is above and below
     def numbers(self):
         """What the table holds, in numbers."""
         for name, length in (("A(n,d)", 2), ("A(n,d,w)", 3)):
@@ -428,7 +428,7 @@ class Page:
         return "\n".join(line for line in self.out if line) + "\n"
 
 
-# What stands before it is all that the first view of the page needs.
+# The first view of the page needs only what comes before this.
 BEHIND = "<!-- behind the first view -->"
 
 

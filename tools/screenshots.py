@@ -7,7 +7,7 @@
 FOLDER gets PNG files: the page on a phone, a tablet and a desktop (360, 768 and 1440 wide), at its top and where a cell, an entry or a piece is led
 to, with its filters, with the keyboard's focus, in the dark, without JavaScript, as readers see it who don't tell red or green apart, and on paper;
 and as PDF files what is printed, of the whole page and of one entry. Said, and then the status is 1: a page wider than its window, text whose
-contrast to its ground is below 4.5, a link's end that a header hides, a focus without an outline. Wants Chromium; without one nothing is done."""
+contrast to its ground is below 4.5, a link's end that a header hides, a focus without an outline. Needs Chromium; without one nothing is done."""
 
 import base64
 import json

@@ -93,7 +93,7 @@ def rule_row(rule, entry):
 
 
 def standings(entry, bounds):
-    """How both bounds of an entry stand to the published ones, in words: where they are equal, nothing better is possible."""
+    """How both bounds of an entry compare with the published ones, in words: where they coincide, nothing better is possible."""
     told = published.value(*entry)
     return tuple("proved here" if bounds[0] == bounds[1] else published.standing(side, here, told) for side, here in zip(SIDES, bounds))
 

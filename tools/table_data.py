@@ -56,7 +56,7 @@ def csv_rows(held):
 
 
 def known_at(held, entry):
-    """What is known as published of an entry, and how its bounds stand to that."""
+    """What is known as published of an entry, and how its bounds compare with it."""
     told = published.value(*entry) or published.Value()
     return {name: getattr(told, name) for name in PUBLISHED} | dict(zip(("lower_is", "upper_is"), table.standings(entry, held.bounds[entry])))
 

@@ -68,7 +68,7 @@ def value(n: int, d: int, w: int | None = None) -> Value | None:
 
 
 def standing(side: str, here: int, told: Value | None) -> str:
-    """How a bound of a side, `lower` or `upper`, stands to the published one.
+    """How a bound of a side, `lower` or `upper`, compares with the published one.
 
         >>> standing("upper", 279, value(20, 8))
         'published only, by semidefinite programming with quadruples of words'
