@@ -18,22 +18,18 @@ With --refused only refusals are shown. Ends with 1 where there is one, as the p
 to this session: an id, an entry, a size or a count in them tells, and is named on standard error."""
 
 import argparse
-import json
-import re
 import sys
 import textwrap
-from pathlib import Path
 
 import check_primal
 from code_tables import sessions
 from code_tables.cites import LONGEST_CITE, MOST_CITES
 from code_tables.ending import ended
 from code_tables.fitting import Standing
+from code_tables.refusals import meanings, sentences
 from code_tables.sessions import LAST, Refusal, texts_of, words_of
 from code_tables.words import MOST_WORK, distance, span
 
-# The sentences of the refusals: those of docs/FORMATS.md, with which a test compares them.
-REFUSALS = Path(__file__).with_name("refusals.json")
 # The ranges of the fields, as docs/FORMATS.md says them.
 RANGES = {
     "format": "the whole number 1 or 2, and 1 where it is left out",
@@ -50,20 +46,6 @@ RANGES = {
     "c": "a list of whole numbers of at least 0, as many as the degree and one more at most",
     "y": "a list of pairs of a distance, ascending from d to n, even where `even` is set, and a whole number of at least 0",
 }
-
-
-def sentences(file):
-    """The patterns of a session's refusals with their sentences, as tools/refusals.json has them: a word in capitals stands for any."""
-    def pattern(text):
-        return " ".join(r"\S+" if word.isupper() else re.escape(word) for word in text.split())
-    return [(pattern(row["refused"]), row["where"].replace("`", "")) for row in json.loads(sessions.read_text(file))]
-
-
-def meanings(command, reply, known):
-    """The sentences on a refusal: of two that have one text, those on a withdrawal are for a withdrawal."""
-    said = [sentence for pattern, sentence in known if re.fullmatch(pattern, reply.removeprefix("refused "))]
-    of_withdrawals = command.words[0] == "withdraw"
-    return [sentence for sentence in said if ("withdraw" in sentence) == of_withdrawals] or said
 
 
 def stated_words(fields):
@@ -179,7 +161,7 @@ def main():
     parser = argparse.ArgumentParser(description=__doc__, formatter_class=argparse.RawDescriptionHelpFormatter)
     parser.add_argument("session", help="the session that was run")
     parser.add_argument("--refused", action="store_true", help="show refusals alone")
-    parser.add_argument("--refusals", default=REFUSALS, metavar="FILE", help="the sentences (tools/refusals.json)")
+    parser.add_argument("--refusals", metavar="FILE", help="the sentences (tools/refusals.json)")
     options = parser.parse_args()
     some = False
     try:

@@ -115,8 +115,12 @@ class Standing:
         return None
 
     def explain(self, command: Command, reply: Lines) -> str | None:
-        """Of a derivation."""
-        return None if reply[0] == "derivation" and reply[-1] == "done" else "a derivation has to follow"
+        """Of a derivation: its last line is that of the bound."""
+        side, numbers = command.words[1], numbers_of(command.words[2:])
+        told = re.fullmatch(r"line \d+ (lower|upper) ((?:\d+ )+)value \d+ by .*", reply[-2]) if len(reply) > 2 else None
+        if reply[0] != "derivation" or reply[-1] != "done" or not told or (told[1], numbers_of(told[2].split())) != (side, numbers):
+            return f"a derivation of the {side} bound of {name_of(numbers)} has to follow"
+        return None
 
     def ledger(self, command: Command, reply: Lines) -> str | None:
         """Of the list of pieces."""

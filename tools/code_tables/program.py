@@ -1,27 +1,31 @@
 """The built program: which one it is, and what it answers.
 
 The variable CODE_TABLES of the environment names it: one path, spaces and all, or a command. Where it isn't set, or is empty, the program is
-the repository's own, `./code_tables`, which is proved and built at its first use."""
+that of a platform wheel, which carries it, or the repository's own, `./code_tables`, which is proved and built at its first use."""
 
 import os
 import shutil
 import subprocess
 from pathlib import Path
 
+from . import places
 from .sessions import Refusal
 
-# The repository, where this file stands in one.
-TOP = Path(__file__).resolve().parents[2]
 # Where the launcher of a repository puts the program that it built.
 BUILT = Path("crates/ct_program/out/ct_program")
 
 
 def program() -> str:
-    """What starts the program: what CODE_TABLES names, or the launcher of the repository."""
+    """What starts the program: what CODE_TABLES names, the program that the wheel carries, or the launcher of the repository."""
     named = os.environ.get("CODE_TABLES", "")
-    if not named and not (TOP / "code_tables").is_file():
-        raise Refusal("no program is named: set CODE_TABLES to the path of a built one")
-    return named or str(TOP / "code_tables")
+    if named:
+        if os.path.isdir(named):
+            raise Refusal(f"CODE_TABLES names a folder, {named}: give it the path of the built program itself")
+        return named
+    carried, launcher = places.carried_program(), places.REPOSITORY / "code_tables"
+    if carried is None and not launcher.is_file():
+        raise Refusal("no program is named: set CODE_TABLES to the path of a built one, or install the wheel of a release, which carries one")
+    return str(carried or launcher)
 
 
 def file() -> Path | None:

@@ -9,6 +9,7 @@ import re
 import tomllib
 from collections.abc import Iterable, Iterator
 from dataclasses import dataclass
+from functools import cached_property
 from itertools import islice
 from pathlib import Path
 from typing import Any, NamedTuple
@@ -46,7 +47,7 @@ class Command:
         """The id that a `submit` or `withdraw` names, or nothing."""
         return self.words[1] if self.words[0] in ("submit", "withdraw") and len(self.words) > 1 else ""
 
-    @property
+    @cached_property
     def fields(self) -> dict[str, Any]:
         """The document as a table, empty where it is none."""
         try:
@@ -238,6 +239,11 @@ def read_text(path: str | Path) -> str:
         raise Refusal(f"{path} can't be read: {fault.strerror}") from None
 
 
+def read_all(paths: Iterable[str | Path]) -> str:
+    """The texts of sessions, one behind the other."""
+    return "".join(text if text.endswith("\n") else text + "\n" for text in map(read_text, paths))
+
+
 def entry_of(fields: dict[str, Any]) -> Entry:
     """The entry that a document states, as numbers."""
     return tuple(fields[name] for name in ("n", "d", "w") if name in fields)
@@ -247,6 +253,12 @@ def is_entry(entry: Entry) -> bool:
     """Whether the table has an entry."""
     n, d, *w = entry
     return 1 <= n <= LAST and 3 <= d <= LAST and all(d % 2 == 0 and 0 <= weight <= n for weight in w)
+
+
+def check_entry(entry: Entry) -> None:
+    """Refuses what is no entry of the table."""
+    if not is_entry(entry):
+        raise Refusal(f"{name_of(entry)} is not in the table: A(n,d) has n from 1 to {LAST} and d from 3 to {LAST}, and A(n,d,w) besides has an even d and w at most n")
 
 
 def name_of(entry: Entry) -> str:
@@ -273,6 +285,12 @@ def piece_of(line: str) -> Piece:
     if not told:
         raise Refusal(f"no line of a piece: {line}")
     return Piece(told[1], told[2], numbers_of(told[3].split()), int(told[4]) if told[4] else None, int(told[5] or 0))
+
+
+def every_table() -> list[str]:
+    """The commands that show each entry of the table."""
+    distances = range(3, LAST + 1)
+    return [f"table {d}" for d in distances] + [f"table {d} {w}" for d in distances if d % 2 == 0 for w in range(LAST + 1)]
 
 
 def bounds_of(line: str) -> tuple[Entry, int, int]:

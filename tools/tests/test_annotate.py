@@ -7,7 +7,7 @@ import tomllib
 import unittest
 from pathlib import Path
 
-from support import DATA, TOP, call, data, needs_program, run, session
+from support import DATA, TOOLS, TOP, call, data, needs_program, run, session
 from test_check_primal import ONES, PLAIN
 
 import annotate
@@ -34,7 +34,7 @@ class Annotate(unittest.TestCase):
         self.assertTrue(all("refused" in line for line in heads))
 
     def test_each_refusal_has_its_sentence(self):
-        known = annotate.sentences(annotate.REFUSALS)
+        known = annotate.sentences()
         for text in ["cut", "command", "entry", "taken", "full pieces 1000", "full words 1000001", "bytes 4194305", "toml", "kind", "field n",
                      "unknown", "digits 0", "size 0", "weight 1", "work 33554432", "repeated 0 1", "close 0 1 2", "nosuch a", "part a",
                      "short 4 5", "few 1 2", "empty", "inuse a"]:
@@ -44,7 +44,7 @@ class Annotate(unittest.TestCase):
     def test_the_sentences_are_those_of_the_document(self):
         section = (TOP / "docs/FORMATS.md").read_text().split("\n## Refusals\n")[1].split("\n## ")[0]
         rows = [{"refused": text, "where": where} for text, where in re.findall(r"^\| `refused ([^`]*)` \| (.*) \|$", section, re.M)]
-        self.assertEqual(rows, json.loads(annotate.REFUSALS.read_text()))
+        self.assertEqual(rows, json.loads((TOOLS / "refusals.json").read_text()))
 
     def test_replies_to_another_session_are_refused(self):
         out, said, status = run("annotate.py", DATA / "annotate/many.session", text=data("annotate/many.replies") + "accepted more size 1\n")

@@ -90,10 +90,10 @@ class Package(unittest.TestCase):
                 self.session.submit("more", evidence, cites=cites)
 
     def test_a_refusal_is_an_error_with_its_text(self):
-        for evidence, fault in (("kind = 'words'\nn = 4\nd = 4\nwords = ['0000', '0011']", "close 0 1 2"), ("", "kind"), ("end\n", "toml")):
+        for evidence, fault in (("kind = 'words'\nn = 4\nd = 4\nwords = ['0000', '0011']", "close 0 1 2"), ("", "kind"), ("end\n=", "toml")):
             with self.assertRaises(Refused) as raised:
                 self.session.submit("a", evidence)
-            self.assertEqual(str(raised.exception), fault)
+            self.assertEqual(raised.exception.reply, fault)
         with self.assertRaises(Refused):
             self.session.bounds(31, 3)
         self.assertEqual(self.session.bounds(5, 3), Bounds(4, 4))
@@ -129,8 +129,13 @@ class Package(unittest.TestCase):
             self.session.bounds(5, 3)
 
     def test_the_functions_share_one_session(self):
-        submit("shared", SIX)
-        self.assertEqual((bounds(10, 6), verify(explain("lower", 10, 6))), (Bounds(6, 6), "yes"))
+        submit("shared", SIX, empty=True)
+        self.assertEqual((bounds(10, 6, empty=True), verify(explain("lower", 10, 6, empty=True))), (Bounds(6, 6), "yes"))
+
+    def test_they_answer_over_the_library_unless_the_empty_table_is_asked_for(self):
+        self.assertEqual((bounds(17, 6), bounds(17, 6, empty=True)), (Bounds(256, 340), Bounds(48, 428)))
+        self.assertIn("by L10 ", explain("lower", 16, 6))
+        self.assertNotIn("by L10 ", explain("lower", 16, 6, empty=True))
 
 
 if __name__ == "__main__":
