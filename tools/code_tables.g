@@ -19,7 +19,9 @@
 # SubmitCode("id", C, "FILE" or "", d or fail, ["TEXT", ..]) lets the document cite where the code comes from: at most 16 texts, each of 1 to
 # 200 bytes of printable ASCII. What is refused is an error that says why, and nothing is written. The program checks all of it anew.
 
-LoadPackage("guava", false);
+if LoadPackage("guava", false) <> true then
+    Error("code_tables: refused: GAP's package GUAVA isn't there: install it");
+fi;
 
 # The greatest length and the greatest distance of the table.
 CodeTables_Last := 30;

@@ -43,7 +43,7 @@ def main():
     parser.add_argument("--no-weight", action="store_true", help="state no weight, also where all words have the same")
     parser.add_argument("--comment", help="the remark above the submission")
     parser.add_argument("--cite", action="append", default=[], metavar="TEXT", help="where the code comes from, as the document cites it: up to 16 times")
-    options = parser.parse_args()
+    options = parser.parse_intermixed_args()
     try:
         words, n = read_words(lines_of(options.file))
         sys.stdout.write(submission(options.id, words, n, generator=options.generator, d=options.distance, may_have_weight=not options.no_weight,

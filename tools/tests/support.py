@@ -9,6 +9,7 @@ import subprocess
 import sys
 import tempfile
 import unittest
+from functools import cache, wraps
 from pathlib import Path
 from unittest import mock
 
@@ -36,6 +37,25 @@ needs_program = unittest.skipUnless(HAS_PROGRAM, "the program isn't built")
 def needs(command):
     """Skips a test where a command isn't there."""
     return unittest.skipUnless(shutil.which(command), f"{command} isn't there")
+
+
+@cache
+def guava():
+    """Why no code of GUAVA can be made here; nothing where it can."""
+    if not shutil.which("gap"):
+        return "gap isn't there"
+    said = subprocess.run(["gap", "-q", "-T"], input=b'Print(LoadPackage("guava", false) = true, "\\n");', capture_output=True).stdout
+    return "" if said.split()[-1:] == [b"true"] else "GAP is there without its package GUAVA"
+
+
+def needs_guava(test):
+    """Skips a test where GAP or GUAVA isn't there."""
+    @wraps(test)
+    def tried(self):
+        if guava():
+            self.skipTest(guava())
+        test(self)
+    return tried
 
 
 def run(*words, text="", **more):

@@ -1,11 +1,14 @@
 """Codes of GAP's GUAVA become submissions; where GAP isn't there, what it wrote is stored."""
 
+import os
 import subprocess
 import tempfile
 import unittest
 from pathlib import Path
+from unittest import mock
 
-from support import TOP, data, needs, needs_program, session
+import support
+from support import TOP, data, needs, needs_guava, needs_program, session
 
 from code_tables import sessions
 from code_tables.cites import cites_of
@@ -17,22 +20,18 @@ def gap(script):
 
 
 class Gap(unittest.TestCase):
-    @needs("gap")
+    @needs_guava
     def test_codes_of_guava(self):
         ended = gap(data("gap/codes.g"))
-        if b"SubmitCode" in ended.stderr or b"guava" in ended.stderr:
-            self.skipTest("GUAVA isn't there")
         self.assertEqual(ended.stderr.decode(), data("gap/codes.err"))
         self.assertEqual(ended.stdout.decode(), data("gap/codes.out"))
 
-    @needs("gap")
+    @needs_guava
     def test_a_file_has_whole_lines_and_each_id_once(self):
         codes = 'SubmitCode("rm", ReedMullerCode(1, 4), "{0}");\nSubmitCode("hadamard", HadamardCode(16), "{0}");\n'
         with tempfile.TemporaryDirectory() as folder:
             file = Path(folder) / "codes.session"
             first, again = (gap('Read("tools/code_tables.g");\n' + codes.format(file)) for _ in range(2))
-            if b"guava" in first.stderr:
-                self.skipTest("GUAVA isn't there")
             text = file.read_text()
         self.assertEqual(first.stderr, b"")
         for submitted in sessions.commands(text):
@@ -43,12 +42,28 @@ class Gap(unittest.TestCase):
                                                         for name in ("rm", "hadamard")))
         self.assertEqual(text.count("submit "), 2)
 
-    @needs("gap")
+    @needs_guava
     def test_a_name_of_a_code_writes_no_command(self):
         ended = gap('Read("tools/code_tables.g");\nc := RepetitionCode(5, GF(2));;\nc!.name := "mine\\nshow 5 3";;\nSubmitCode("a", c);\n')
-        if b"guava" in ended.stderr:
-            self.skipTest("GUAVA isn't there")
         self.assertEqual([command.words[:2] for command in sessions.commands(ended.stdout.decode())], [["submit", "a"]])
+
+    @needs("gap")
+    def test_gap_without_guava_is_refused_in_one_sentence(self):
+        script = "LoadPackage := function(name, banner) return fail; end;;\n" + 'Read("tools/code_tables.g");\nPrint(IsBound(SubmitCode), "\\n");\n'
+        ended = gap("MakeReadWriteGlobal(\"LoadPackage\");\n" + script)
+        self.assertEqual(ended.stderr.decode(), "Error, code_tables: refused: GAP's package GUAVA isn't there: install it\n")
+        self.assertEqual(ended.stdout.split()[-1], b"false")
+
+    def test_gap_without_guava_is_a_skip(self):
+        with tempfile.TemporaryDirectory() as folder:
+            for answer, said in (("fail", "GAP is there without its package GUAVA"), ("false", "GAP is there without its package GUAVA"), ("true", "")):
+                file = Path(folder) / "gap"
+                file.write_text(f"#!/bin/sh\necho '#I  guava'\necho {answer}\n")
+                file.chmod(0o755)
+                with mock.patch.dict(os.environ, PATH=f"{folder}:{os.environ['PATH']}"):
+                    self.assertEqual(support.guava.__wrapped__(), said)
+        with mock.patch.dict(os.environ, PATH=""):
+            self.assertEqual(support.guava.__wrapped__(), "gap isn't there")
 
     def test_a_submission_cites_what_is_said(self):
         cites = {command.id: cites_of(command.fields) for command in sessions.commands(data("gap/codes.out")) if command.words[0] == "submit"}

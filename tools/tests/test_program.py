@@ -47,6 +47,13 @@ class Named(unittest.TestCase):
         ended = subprocess.run([TOP / "code_tables", "session"], env=missing, capture_output=True)
         self.assertEqual((ended.stderr, ended.returncode), (b"code_tables: CODE_TABLES names no program that can be run: /no/such program\n", 125))
 
+    def test_a_folder_is_no_program(self):
+        named, said = os.environ | {"CODE_TABLES": str(self.folder)}, f"CODE_TABLES names a folder, {self.folder}: give it the path of the built program itself"
+        ended = subprocess.run([TOP / "code_tables", "session"], stdin=subprocess.DEVNULL, env=named, capture_output=True, text=True)
+        self.assertEqual((ended.stdout, ended.stderr, ended.returncode), ("", f"code_tables: {said}\n", 125))
+        for tool, *words in (["cite.py", 10, 6, self.small], ["page.py", self.small], ["keep.py", self.small, self.folder / "kept"]):
+            self.assertIn(f"refused: {said}", run(tool, *words, env=named)[1])
+
     def test_the_launcher_says_how_where_rt_is_not_there(self):
         top = self.folder / "checkout"
         (top / "crates").mkdir(parents=True)

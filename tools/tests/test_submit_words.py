@@ -132,6 +132,15 @@ class SubmitWords(unittest.TestCase):
         self.assertEqual(out.count("format = 2\n"), 1)
         self.assertNotIn("format", run("submit_words.py", "a", text="1100\n0011\n")[0])
 
+    def test_options_may_stand_before_and_behind_the_file(self):
+        with tempfile.NamedTemporaryFile() as file:
+            file.write(b"1100\n0011\n")
+            file.flush()
+            expected = call("submit_words", "a", file.name, "--cite", "A. Name, 1990")
+            self.assertIn('cites = ["A. Name, 1990"]', expected[0])
+            for words in (["a", "--cite", "A. Name, 1990", file.name], ["--cite", "A. Name, 1990", "a", file.name], ["a", "--cite=A. Name, 1990", "--", file.name]):
+                self.assertEqual(call("submit_words", *words), expected)
+
     def test_what_no_document_cites_is_refused(self):
         for cites, fault in CITE_FAULTS:
             with self.subTest(fault=fault):

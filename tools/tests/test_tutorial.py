@@ -8,7 +8,7 @@ import subprocess
 import sys
 import unittest
 
-from support import TOOLS, TOP, needs_program, session, workplace
+from support import TOOLS, TOP, needs_guava, needs_program, session, workplace
 
 from code_tables.program import program
 
@@ -38,6 +38,7 @@ class Tutorial(unittest.TestCase):
         """Runs the commands of a document; those that ask for what this program doesn't have yet are left out."""
         has = {"explain": not session("explain upper 16 6\n").startswith("refused command")}
         left, folder = 0, workplace(self)
+        before = set(os.listdir(folder))
         for block in blocks((TOP / document).read_text()):
             for command, shown in block:
                 if any(word in command and not there for word, there in has.items()):
@@ -46,6 +47,7 @@ class Tutorial(unittest.TestCase):
                 with self.subTest(command=command):
                     said = answer(command, folder)
                     self.assertTrue(matches(shown, said), f"{document} shows\n{shown}and the answer is\n{said}")
+        self.assertEqual(set(os.listdir(folder)), before, f"{document} leaves files")
         return left
 
     @needs_program
@@ -66,7 +68,7 @@ class Tutorial(unittest.TestCase):
     def test_the_readme(self):
         self.check("README.md")
 
-    @unittest.skipUnless(subprocess.run("command -v gap", shell=True, capture_output=True).returncode == 0, "GAP isn't there")
+    @needs_guava
     def test_the_session_of_guava(self):
         lines = re.findall(r"^gap> (.*)$", (TOP / "docs/TUTORIAL.md").read_text(), re.M)
         script = "\n".join(line.replace(', "guava.session"', "") for line in lines)
