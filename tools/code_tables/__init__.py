@@ -15,11 +15,12 @@ program wrote, each reply is compared with what was asked, and the program check
 from a shell."""
 
 import sys
-from typing import TYPE_CHECKING
 
 if sys.version_info < (3, 11):
     sys.exit("code_tables: Python 3.11 or later is needed, and this is %d.%d" % sys.version_info[:2])
 
+# As in typing, which takes long to import.
+TYPE_CHECKING = False
 if TYPE_CHECKING:
     from .live import Bounds, Piece, Refusal, Refused, Session, bounds, explain, submit, verify
 

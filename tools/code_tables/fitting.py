@@ -15,12 +15,13 @@ PLACES = {"weight": 1, "digits": 1, "repeated": 2, "close": 2}
 
 
 class Standing:
-    """The pieces that stand as the replies say, ids in order; `fits` takes the replies one by one."""
+    """The pieces that stand as the replies say, ids in order; `fault` takes the replies one by one. Where `reads_documents` isn't set, an
+    acceptance is compared with the id of its submission, and not with the document, which takes long to read where it is long."""
 
     def __init__(self) -> None:
         self.ids: list[str] = []
-        self.parts: dict[str, list[str]] = {}
-        self.cites: dict[str, int | None] = {}
+        self.submitted: dict[str, Command] = {}
+        self.reads_documents = True
 
     def fault(self, command: Command, reply: Lines) -> str | None:
         """Why a reply can't be that to a command here; None where it can."""
@@ -61,15 +62,18 @@ class Standing:
             return "the document isn't complete"
         if told[1] in self.ids:
             return "a piece of this id stands"
+        fault = self.size_fault(command, told[2]) if self.reads_documents else None
+        if fault is None:
+            self.ids.append(told[1])
+            self.submitted[told[1]] = command
+        return fault
+
+    def size_fault(self, command: Command, told: str | None) -> str | None:
+        """Why a document's code can't have the size that is told."""
         kind, size = command.fields.get("kind"), size_of(command.fields)
-        if kind and (kind in SIZELESS) != (told[2] is None):
+        if kind and (kind in SIZELESS) != (told is None):
             return "a dual has no size, and every other piece has one"
-        if size is not None and told[2] != str(size):
-            return f"the document has {size} words"
-        self.ids.append(told[1])
-        self.parts[told[1]] = command.parts
-        self.cites[told[1]] = len(cites_of(command.fields)) if command.fields else None
-        return None
+        return f"the document has {size} words" if size is not None and told != str(size) else None
 
     def withdraw(self, command: Command, reply: Lines) -> str | None:
         """Of a withdrawal."""
@@ -88,7 +92,7 @@ class Standing:
             return "no such piece stands"
         gone = [command.id]
         for id in self.ids:
-            if any(part in gone for part in self.parts[id]):
+            if any(part in gone for part in self.submitted[id].parts):
                 gone.append(id)
         if reply != [f"withdrawn {command.id} count {len(gone)}"]:
             return f"the command takes {len(gone)} pieces out: {' '.join(gone)}"
@@ -135,7 +139,8 @@ class Standing:
             piece = piece_of(line)
         except ValueError:
             return f"the line of a piece has to stand here, and not: {line}"
-        cites = self.cites[piece.id]
+        fields = self.submitted[piece.id].fields
+        cites = len(cites_of(fields)) if fields else None
         return None if cites in (None, piece.cites) else f"{piece.id} cites {cites} texts"
 
     def dump(self, command: Command, reply: Lines) -> str | None:

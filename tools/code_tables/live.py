@@ -124,11 +124,13 @@ class Session:
         except OSError as fault:
             raise Refusal(f"the program {program.program()} can't be started: {fault.strerror}") from None
         try:
+            self._standing.reads_documents = False
             for file in [*(found_library() if library else []), *files]:
                 self._take(sessions.read_text(file))
         except BaseException:
             self._stop()
             raise
+        self._standing.reads_documents = True
         self.submitted = 0
 
     def __enter__(self) -> "Session":

@@ -1,6 +1,9 @@
 """Where the package finds what belongs to it: in a wheel all of it lies within the package, in `carried`; in the repository it lies beside it."""
 
+import importlib
+import sys
 from pathlib import Path
+from types import ModuleType
 
 PACKAGE = Path(__file__).resolve().parent
 # What a wheel carries besides the modules: the tools with their data, the library, and in a platform wheel the program and its answers.
@@ -29,3 +32,11 @@ def carried_program() -> Path | None:
 def carried_answers() -> Path:
     """The answers over the library that a platform wheel carries beside the program."""
     return CARRIED / "answers.txt"
+
+
+def tool(name: str) -> ModuleType:
+    """A tool, as a module."""
+    folder = str(tools())
+    if folder not in sys.path:
+        sys.path.insert(0, folder)
+    return importlib.import_module(name)

@@ -144,15 +144,20 @@ class Release(unittest.TestCase):
         with tempfile.TemporaryDirectory() as place:
             folder = Path(place) / "a release"
             ended = self.release(folder, TOP / "examples/six-words.session")
-            self.assertEqual((ended.stdout, ended.stderr, ended.returncode), (f"release: {folder}\n", "", 0))
+            told = f"release: {folder}\nrelease: to tag it: git tag -a v0.9 -m 'code_tables 0.9' COMMIT && git push origin v0.9\n"
+            self.assertEqual((ended.stdout, ended.stderr, ended.returncode),
+                             (told, "release: COMMIT is the one that the program was built from, which no record beside it names\n", 0))
             files = {str(file.relative_to(folder)) for file in folder.rglob("*") if file.is_file()}
-            self.assertEqual(files, {"README.txt", "SHA256SUMS", "code_tables", "library/six-words.session", "table.csv", "table.html", "table.json",
-                                     "table.schema.json", "words/hexa.txt"})
+            wheel, = (name for name in files if name.endswith(".whl"))
+            self.assertRegex(wheel, r"^code_tables-0\.9-py3-none-linux_\w+\.whl$")
+            self.assertEqual(files - {wheel}, {"CHANGELOG.md", "CITATION.cff", "LICENSE", "LICENSE-APACHE", "LICENSE-MIT", "README.txt", "SHA256SUMS", "code_tables",
+                                               "code_tables-0.9.tar.gz", "index.html", "library/six-words.session", "table.csv", "table.json", "table.schema.json",
+                                               "words/hexa.txt"})
             sums = dict(reversed(line.split("  ./")) for line in (folder / "SHA256SUMS").read_text().splitlines())
             self.assertEqual(sums, {name: hashlib.sha256((folder / name).read_bytes()).hexdigest() for name in files - {"SHA256SUMS"}})
             self.assertEqual((folder / "code_tables").read_bytes(), FAKE_PROGRAM.read_bytes())
             self.assertEqual(len((folder / "words/hexa.txt").read_text().split()), 6)
-            text = (folder / "table.html").read_text()
+            text = (folder / "index.html").read_text()
             for name in ("table.csv", "table.json", "table.schema.json", "words/hexa.txt"):
                 self.assertIn(f'<a href="{name}"', text)
             again = self.release(folder)

@@ -1,0 +1,8 @@
+"""Runs the command `code-tables`, as `python3 -m code_tables`."""
+
+import sys
+
+from .cli import main
+
+if __name__ == "__main__":
+    sys.exit(main())
