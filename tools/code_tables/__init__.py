@@ -22,14 +22,19 @@ if sys.version_info < (3, 11):
 # As in typing, which takes long to import.
 TYPE_CHECKING = False
 if TYPE_CHECKING:
-    from .live import Bounds, Piece, Refusal, Refused, Session, bounds, explain, submit, verify
+    from .answers import Bounds
+    from .first import bounds
+    from .live import Piece, Refusal, Refused, Session, explain, submit, verify
 
 __all__ = ["Bounds", "Piece", "Refusal", "Refused", "Session", "bounds", "explain", "submit", "verify"]
 
 
 def __getattr__(name: str) -> object:
-    """What the package has, read when it is first asked for: the command that answers from what the wheel carries needs little of it."""
+    """What the package has, read when it is first asked for: a first answer needs little of it."""
     if name not in __all__:
         raise AttributeError(f"module {__name__!r} has no attribute {name!r}")
-    from . import live
-    return globals().setdefault(name, getattr(live, name))
+    if name in ("Bounds", "bounds"):
+        from . import first as home
+    else:
+        from . import live as home
+    return globals().setdefault(name, getattr(home, name))

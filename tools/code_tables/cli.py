@@ -62,7 +62,7 @@ def progress(doing: str) -> Iterator[None]:
 def session_files(options: Options) -> list[str]:
     """The sessions that are run before the question: the library's, unless --empty is given, and those of --with."""
     from .live import found_library
-    return [*(() if options.empty else map(str, found_library())), *options.more]
+    return [*(() if options.empty else found_library()), *options.more]
 
 
 @contextlib.contextmanager
@@ -218,7 +218,7 @@ def package_version() -> str:
     try:
         return metadata.version("code-tables")
     except metadata.PackageNotFoundError:
-        return tomllib.loads((places.PACKAGE.parent / "pyproject.toml").read_text("utf-8"))["project"]["version"]
+        return tomllib.loads(Path(places.tools(), "pyproject.toml").read_text("utf-8"))["project"]["version"]
 
 
 class Version(argparse.Action):

@@ -26,11 +26,10 @@ import os
 import subprocess
 import threading
 from collections.abc import Iterable, Iterator, Sequence
-from operator import index
 from pathlib import Path
-from typing import NamedTuple
 
-from . import answers, places, program, refusals, sessions, words
+from . import places, program, refusals, sessions, words
+from .answers import Bounds, entry_words, whole
 from .fitting import Standing
 from .sessions import Command, Piece, Refusal
 
@@ -45,30 +44,6 @@ class Refused(Refusal):
     def __init__(self, reply: str, meaning: str = "") -> None:
         super().__init__(f"{reply}: {meaning}" if meaning else reply)
         self.reply = reply
-
-
-class Bounds(NamedTuple):
-    """A lower and an upper bound of an entry."""
-    lower: int
-    upper: int
-
-    @property
-    def is_exact(self) -> bool:
-        """Whether the two are equal."""
-        return self.lower == self.upper
-
-
-def whole(name: str, number: int) -> int:
-    """A whole number; a refusal of any other."""
-    try:
-        return index(number)
-    except TypeError:
-        raise Refusal(f"{name} is {number!r}, and has to be a whole number") from None
-
-
-def entry_words(n: int, d: int, w: int | None) -> str:
-    """An entry as a command writes it."""
-    return " ".join(str(whole(name, number)) for name, number in (("n", n), ("d", d), ("w", w)) if name != "w" or number is not None)
 
 
 def column_words(d: int, w: int | None) -> str:
@@ -295,7 +270,7 @@ def verify(derivation: str) -> str:
     return program.run(derivation, "verify").removesuffix("\n")
 
 
-def found_library() -> list[Path]:
+def found_library() -> list[str]:
     """The sessions of the library."""
     found = places.library()
     if not found:
@@ -305,6 +280,11 @@ def found_library() -> list[Path]:
 
 _shared: dict[bool, Session] = {}
 _guard = threading.RLock()
+
+
+def is_begun(empty: bool = False) -> bool:
+    """Whether the shared session was begun."""
+    return empty in _shared
 
 
 def shared(empty: bool = False) -> Session:
@@ -321,21 +301,6 @@ def shared(empty: bool = False) -> Session:
         if empty not in _shared:
             _shared[empty] = Session(library=not empty)
         return _shared[empty]
-
-
-def bounds(n: int, d: int, w: int | None = None, *, empty: bool = False) -> Bounds:
-    """The bounds of A(n,d), or of A(n,d,w), over the library and what was submitted to the shared session; with `empty` over nothing else than
-    what was submitted with `empty`.
-
-        >>> bounds(17, 6)
-        Bounds(lower=256, upper=340)
-        >>> bounds(17, 6, empty=True)
-        Bounds(lower=48, upper=428)
-        >>> bounds(24, 8, 8).is_exact
-        True
-    """
-    line = None if empty or False in _shared else answers.line(*map(int, entry_words(n, d, w).split(" ")))
-    return Bounds(*sessions.bounds_of(line)[1:]) if line else shared(empty).bounds(n, d, w)
 
 
 def submit(id: str, evidence: str | Iterable[object], d: int | None = None, cites: Sequence[str] = (), *, empty: bool = False) -> int | None:

@@ -1,42 +1,42 @@
 """Where the package finds what belongs to it: in a wheel all of it lies within the package, in `carried`; in the repository it lies beside it."""
 
-import importlib
-import sys
-from pathlib import Path
+import os
 from types import ModuleType
 
-PACKAGE = Path(__file__).resolve().parent
+PACKAGE = os.path.dirname(os.path.realpath(__file__))
 # What a wheel carries besides the modules: the tools with their data, the library, and in a platform wheel the program and its answers.
-CARRIED = PACKAGE / "carried"
+CARRIED = os.path.join(PACKAGE, "carried")
 # The repository, where this file is part of one.
-REPOSITORY = PACKAGE.parents[1]
+REPOSITORY = os.path.dirname(os.path.dirname(PACKAGE))
 
 
-def tools() -> Path:
+def tools() -> str:
     """The folder of the tools that are run as scripts, and of the files that they read."""
-    return CARRIED / "tools" if CARRIED.is_dir() else PACKAGE.parent
+    return os.path.join(CARRIED, "tools") if os.path.isdir(CARRIED) else os.path.dirname(PACKAGE)
 
 
-def library() -> list[Path]:
+def library() -> list[str]:
     """The sessions of the library, in the order in which they are run; none where the library isn't there."""
-    folder = CARRIED / "library" if CARRIED.is_dir() else REPOSITORY / "examples/library"
-    return sorted(folder.glob("*.session"))
+    folder = os.path.join(CARRIED, "library") if os.path.isdir(CARRIED) else os.path.join(REPOSITORY, "examples/library")
+    names = sorted(os.listdir(folder)) if os.path.isdir(folder) else []
+    return [os.path.join(folder, name) for name in names if name.endswith(".session")]
 
 
-def carried_program() -> Path | None:
+def carried_program() -> str | None:
     """The program that a platform wheel carries; None where there is none."""
-    file = CARRIED / "program/code_tables"
-    return file if file.is_file() else None
+    file = os.path.join(CARRIED, "program/code_tables")
+    return file if os.path.isfile(file) else None
 
 
-def carried_answers() -> Path:
+def carried_answers() -> str:
     """The answers over the library that a platform wheel carries beside the program."""
-    return CARRIED / "answers.txt"
+    return os.path.join(CARRIED, "answers.txt")
 
 
 def tool(name: str) -> ModuleType:
     """A tool, as a module."""
-    folder = str(tools())
-    if folder not in sys.path:
-        sys.path.insert(0, folder)
+    import importlib
+    import sys
+    if tools() not in sys.path:
+        sys.path.insert(0, tools())
     return importlib.import_module(name)

@@ -22,10 +22,10 @@ def program() -> str:
         if os.path.isdir(named):
             raise Refusal(f"CODE_TABLES names a folder, {named}: give it the path of the built program itself")
         return named
-    carried, launcher = places.carried_program(), places.REPOSITORY / "code_tables"
-    if carried is None and not launcher.is_file():
+    carried, launcher = places.carried_program(), os.path.join(places.REPOSITORY, "code_tables")
+    if carried is None and not os.path.isfile(launcher):
         raise Refusal("no program is named: set CODE_TABLES to the path of a built one, or install the wheel of a release, which carries one")
-    return str(carried or launcher)
+    return carried or launcher
 
 
 def file() -> Path | None:

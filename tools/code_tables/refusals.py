@@ -22,7 +22,7 @@ def _pattern(refusal: str) -> str:
 
 def sentences(file: str | Path | None = None) -> Known:
     """The patterns of a session's refusals with their sentences, from tools/refusals.json or another file."""
-    rows = json.loads(read_text(file or places.tools() / "refusals.json"))
+    rows = json.loads(read_text(file or Path(places.tools(), "refusals.json")))
     return [(_pattern(row["refused"]), row["where"].replace("`", "")) for row in rows]
 
 

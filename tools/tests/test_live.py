@@ -11,6 +11,7 @@ from unittest import mock
 
 from support import TOOLS, TOP, needs_program
 
+import code_tables
 from code_tables import Bounds, Refusal, Refused, Session, live
 from code_tables.fitting import Standing
 from code_tables.sessions import Command
@@ -110,10 +111,10 @@ class Interrupted(unittest.TestCase):
         with mock.patch.object(live, "_shared", {}):
             live.submit("pair", ["0000", "1111"], empty=True)
             with mock.patch.object(live.Session, "_exchange", side_effect=KeyboardInterrupt), self.assertRaises(KeyboardInterrupt):
-                live.bounds(9, 4, empty=True)
+                code_tables.bounds(9, 4, empty=True)
             with self.assertRaisesRegex(Refusal, "`show 9 4` was interrupted, with the 1 pieces that were submitted to it: the next call begins another"):
-                live.bounds(16, 6, empty=True)
-            self.assertEqual(live.bounds(16, 6, empty=True), Bounds(32, 256))
+                code_tables.bounds(16, 6, empty=True)
+            self.assertEqual(code_tables.bounds(16, 6, empty=True), Bounds(32, 256))
             live._shared[True].close()
 
     def test_another_process_begins_a_session_of_its_own(self):
@@ -137,7 +138,7 @@ class Asked(unittest.TestCase):
 
     def test_numbers_that_are_not_whole_are_refused(self):
         for numbers, fault in (((12.7, 4), "n is 12.7, and has to be a whole number"), ((12, "4"), "d is '4'"), ((12, 4, 2.5), "w is 2.5"), ((None, 4), "n is None")):
-            for call in (self.session.bounds, self.session.words, live.bounds):
+            for call in (self.session.bounds, self.session.words, code_tables.bounds):
                 with self.assertRaisesRegex(Refusal, fault):
                     call(*numbers)
         with self.assertRaisesRegex(Refusal, "d is 4.5"):

@@ -53,7 +53,7 @@ class Distributions(unittest.TestCase):
                 self.assertEqual(wheel.read(f"code_tables-0.9.dist-info/licenses/{name}"), (TOP / name).read_bytes())
             self.assertIn("Topic :: Scientific/Engineering :: Mathematics", told.get_all("Classifier"))
             self.assertEqual((told["Description-Content-Type"], told.get_payload(decode=True)), ("text/markdown; charset=UTF-8", (TOP / "README.md").read_bytes()))
-            self.assertEqual(wheel.read("code_tables-0.9.dist-info/entry_points.txt").decode(), "[console_scripts]\ncode-tables = code_tables.cli:main\n")
+            self.assertEqual(wheel.read("code_tables-0.9.dist-info/entry_points.txt").decode(), "[console_scripts]\ncode-tables = code_tables.first:main\n")
 
     def test_the_versions_are_one(self):
         self.assertIn(f'version: "{build_package.project()["version"]}"', (TOP / "CITATION.cff").read_text())
@@ -100,7 +100,7 @@ class Answers(unittest.TestCase):
             (self.carried / name).mkdir()
         (self.carried / "program/code_tables").write_text("a program")
         (self.carried / "library/1.session").write_text("a session\n")
-        for patch in (mock.patch.object(places, "CARRIED", self.carried), mock.patch.dict(os.environ)):
+        for patch in (mock.patch.object(places, "CARRIED", str(self.carried)), mock.patch.dict(os.environ)):
             patch.start()
             self.addCleanup(patch.stop)
         os.environ.pop("CODE_TABLES", None)
