@@ -68,7 +68,10 @@ def evidence_of(text: str, name: str, *, generator: bool = False, distance: int 
     """The submissions of a text: its own where it has some, else the one of its words."""
     found = [command for command in sessions.commands(text) if command.words[0] == "submit"]
     if not found:
-        read, n = words.read_words(text.split("\n"))
+        try:
+            read, n = words.read_words(text.split("\n"))
+        except Refusal as refusal:
+            raise Refusal(f"{refusal}; give words, one a line, a list as Python or GAP prints it, or submissions") from None
         return sessions.commands(words.submission(name, read, n, generator=generator, d=distance, cites=cites))
     if generator or distance or cites:
         raise Refusal("a submission says itself what it is: --generator, --distance and --cite are for words")

@@ -93,6 +93,7 @@ class Session:
         self._asked = ""
         self.refused: list[tuple[str, str]] = []
         self.submitted = 0
+        texts = [sessions.read_text(file) for file in [*(found_library() if library else []), *files]]
         try:
             # In a group of its own: Ctrl-C ends the call that it interrupts, and no session that waits.
             self._process = subprocess.Popen([program.program(), "session"], stdin=subprocess.PIPE, stdout=subprocess.PIPE, process_group=0)
@@ -100,8 +101,8 @@ class Session:
             raise Refusal(f"the program {program.program()} can't be started: {fault.strerror}") from None
         try:
             self._standing.reads_documents = False
-            for file in [*(found_library() if library else []), *files]:
-                self._take(sessions.read_text(file))
+            for text in texts:
+                self._take(text)
         except BaseException:
             self._stop()
             raise

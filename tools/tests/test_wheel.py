@@ -7,6 +7,7 @@ import subprocess
 import sys
 import tarfile
 import tempfile
+import time
 import unittest
 import venv
 import zipfile
@@ -155,6 +156,20 @@ class Installed(unittest.TestCase):
         script = "from code_tables import bounds; print(bounds(17, 6), bounds(17, 6, empty=True))"
         ended = subprocess.run([self.python, "-c", script], cwd="/", env=BARE, capture_output=True, text=True)
         self.assertEqual((ended.stdout, ended.stderr), ("Bounds(lower=256, upper=340) Bounds(lower=48, upper=428)\n", ""))
+
+    def test_a_first_answer_takes_at_most_twenty_empty_sessions(self):
+        def least(words):
+            """The least time of ten runs."""
+            times = []
+            for _ in range(10):
+                begin = time.monotonic()
+                subprocess.run(words, stdin=subprocess.DEVNULL, stdout=subprocess.DEVNULL, cwd="/", env=BARE, check=True)
+                times.append(time.monotonic() - begin)
+            return min(times)
+        empty = least([self.package / "carried/program/code_tables", "session"])
+        for words in (["-m", "code_tables", "show", "17", "6"], ["-c", "from code_tables import bounds; bounds(17, 6)"]):
+            with self.subTest(words=words):
+                self.assertLess(least([self.python, *words]), 20 * empty)
 
     def test_what_it_carries_of_answers_is_what_the_program_answers(self):
         told = (self.package / "carried/answers.txt").read_text()
