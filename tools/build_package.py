@@ -29,8 +29,8 @@ sys.path.insert(0, str(HERE))
 from code_tables import answers, program, sessions
 
 # What is no tool for people; of the other files those that Python, GAP or a page reads.
-NO_TOOLS = ("build_package.py", "test.py", "screenshots.py")
-SUFFIXES = (".py", ".typed", ".json", ".css", ".js", ".bib", ".csv", ".tsv", ".txt", ".g")
+NO_TOOLS = ("build_package.py", "pyproject.toml", "test.py", "screenshots.py")
+SUFFIXES = (".py", ".typed", ".json", ".toml", ".css", ".js", ".bib", ".csv", ".tsv", ".txt", ".g")
 TIME = 315532800
 
 
@@ -103,7 +103,7 @@ def named(file):
 
 def answered(file):
     """What a program answers over the library: its checksum and that of the sessions, and the bounds of each entry as it writes them."""
-    whole = sessions.read_all(library()) + "".join(f"{command}\n" for command in sessions.every_table())
+    whole = sessions.read_sessions(library()) + "".join(f"{command}\n" for command in sessions.every_table())
     with named(file):
         output = program.run(whole)
     lines = []

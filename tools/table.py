@@ -10,14 +10,12 @@ from functools import cache
 from pathlib import Path
 
 from code_tables import cites, program, published, sessions
-from code_tables.sessions import LAST, Refusal, quoted
+from code_tables.sessions import LAST, Refusal
 
 LENGTHS = range(1, LAST + 1)
 DISTANCES = range(3, LAST + 1)
 EVEN = range(4, LAST + 1, 2)
 SIDES = ("lower", "upper")
-# The words with which a command of a session begins.
-COMMANDS = ("submit", "withdraw", "show", "table", "explain", "list", "ledger", "dump")
 # How many explanations are asked for in one session: they are as long as the documents that they rest on.
 AT_ONCE = 500
 
@@ -98,23 +96,8 @@ def standings(entry, bounds):
     return tuple("proved here" if bounds[0] == bounds[1] else published.standing(side, here, told) for side, here in zip(SIDES, bounds))
 
 
-def read_session(path):
-    """The text of a session; a file that holds other lines than commands is refused."""
-    text = sessions.read_text(path)
-    other = next((command for command in sessions.commands(text) if command.words[0] not in COMMANDS), None)
-    if other:
-        raise Refusal(f"{path} is no session: its line {other.line}, {quoted(' '.join(other.words))}, is no command; give sessions, as examples/library/*.session")
-    return text if text.endswith("\n") else text + "\n"
-
-
-def read_sessions(paths):
-    """The texts of sessions, one behind the other."""
-    return "".join(map(read_session, paths))
-
-
-def ask_all():
-    """The commands that show each entry of the table."""
-    return [f"table {d}" for d in DISTANCES] + [f"table {d} {w}" for d in EVEN for w in range(LAST + 1)]
+read_sessions = sessions.read_sessions
+ask_all = sessions.every_table
 
 
 def held(text, more):

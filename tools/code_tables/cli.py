@@ -11,9 +11,9 @@ import contextlib
 import os
 import sys
 from collections.abc import Callable, Iterator, Sequence
-from pathlib import Path
 
 from . import answers, places
+from .ending import ended
 
 # As in typing, which takes long to import.
 TYPE_CHECKING = False
@@ -200,7 +200,7 @@ def improves(options: Options) -> int:
 
 def version() -> str:
     """The version of the package, and which program and library it asks."""
-    from . import program
+    from . import about, program
     from .provenance import Provenance, provenance
     from .sessions import Refusal
     try:
@@ -208,17 +208,7 @@ def version() -> str:
     except Refusal as refusal:
         place, made = f"none: {refusal}", Provenance()
     rows = {"program": place, "sha256": made.program, "commit": made.commit, "toolchain": made.toolchain, "library": answers.sum_of(*places.library())}
-    return "\n".join([f"code-tables {package_version()}", *(f"{name:10} {value}" for name, value in rows.items())])
-
-
-def package_version() -> str:
-    """The version of the package, as its metadata or the repository says."""
-    from importlib import metadata
-    import tomllib
-    try:
-        return metadata.version("code-tables")
-    except metadata.PackageNotFoundError:
-        return tomllib.loads(Path(places.tools(), "pyproject.toml").read_text("utf-8"))["project"]["version"]
+    return "\n".join([f"code-tables {about.VERSION}", *(f"{name:10} {value}" for name, value in rows.items())])
 
 
 class Version(argparse.Action):
@@ -327,30 +317,27 @@ def read_options(words: Sequence[str]) -> Options:
     return options
 
 
-def main(words: Sequence[str] | None = None) -> int:
+def answered(words: Sequence[str]) -> int:
     """Runs a command line: the status is 0, 1 at a refusal or at a `no`, 2 where the words are wrong."""
+    from .sessions import Refusal
     try:
-        options = read_options(sys.argv[1:] if words is None else words)
-        status = options.function(options)
-        sys.stdout.flush()
-        return status
-    except ValueError as refusal:
-        from .sessions import Refusal
-        if not isinstance(refusal, Refusal):
-            raise
+        options = read_options(words)
+        return options.function(options)
+    except Refusal as refusal:
         print(f"code-tables: refused: {refusal}", file=sys.stderr)
-        return 1
+    except BrokenPipeError:
+        raise
     except OSError as fault:
-        if isinstance(fault, BrokenPipeError):
-            # Who reads has read enough.
-            os.dup2(os.open(os.devnull, os.O_WRONLY), sys.stdout.fileno())
-            return 0
-        print(f"code-tables: {fault.filename or 'a file'}: {fault.strerror}", file=sys.stderr)
-        return 1
-    except KeyboardInterrupt:
-        print("code-tables: stopped", file=sys.stderr)
-        return 130
+        print(f"code-tables: refused: {fault.filename or 'a file'}: {fault.strerror}", file=sys.stderr)
+    return 1
+
+
+def main(words: Sequence[str] | None = None) -> None:
+    """Runs a command line, and ends with its status."""
+    words = sys.argv[1:] if words is None else words
+    sys.argv[0] = "code-tables"
+    ended(lambda: sys.exit(answered(words)))
 
 
 if __name__ == "__main__":
-    sys.exit(main())
+    main()

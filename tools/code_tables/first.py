@@ -25,13 +25,13 @@ def bounds(n: int, d: int, w: int | None = None, *, empty: bool = False) -> Boun
     return shared(empty).bounds(n, d, w)
 
 
-def main() -> int:
+def main() -> None:
     """The command `code-tables`: `show N D` and `show N D W` are answered at once where the wheel carries the answer."""
     words = sys.argv[1:]
     if words[:1] == ["show"] and len(words) in (3, 4) and all(word.isascii() and word.isdigit() for word in words[1:]):
         line = answers.line(*map(int, words[1:]))
         if line is not None:
-            sys.stdout.write(f"{line}\n")
-            return 0
+            print(line)
+            return
     from .cli import main
-    return main()
+    main()

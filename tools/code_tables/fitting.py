@@ -6,7 +6,7 @@ import re
 from collections.abc import Sequence
 
 from .cites import cites_of
-from .sessions import LAST, SIZELESS, Command, Entry, bounds_of, name_of, numbers_of, piece_of, size_of, texts_of
+from .sessions import COMMANDS, LAST, SIZELESS, Command, Entry, bounds_of, name_of, numbers_of, piece_of, size_of, texts_of
 
 # The lines of a reply.
 Lines = Sequence[str]
@@ -146,9 +146,6 @@ class Standing:
     def dump(self, command: Command, reply: Lines) -> str | None:
         """Of a dump."""
         return None if reply[0] == f"# dump of {len(self.ids)} pieces" else f"{len(self.ids)} pieces stand"
-
-
-COMMANDS = ("submit", "withdraw", "show", "table", "list", "explain", "ledger", "dump")
 
 
 def entries_fault(entries: Sequence[Entry], reply: Lines) -> str | None:

@@ -9,15 +9,10 @@ from collections.abc import Iterator, Sequence
 from dataclasses import dataclass, field
 from pathlib import Path
 
-from . import places, refusals, sessions, words
+from . import places, published, refusals, sessions, words
 from .cites import cites_of
 from .live import Bounds, Session, written
 from .sessions import Command, Entry, Refusal, name_of
-
-try:
-    from . import published
-except ImportError:
-    published = None
 
 SIDES = ("lower", "upper")
 
@@ -112,10 +107,10 @@ def whole_table(session: Session) -> dict[Entry, Bounds]:
 
 def told(evidence: list[Command], files: Sequence[str]) -> Told:
     """What the program says of evidence over sessions."""
-    documents = {command.document: command.id for command in sessions.commands(sessions.read_all(files)) if command.words[0] == "submit"}
+    documents = {command.document: command.id for command in sessions.commands(sessions.read_sessions(files)) if command.words[0] == "submit"}
     with Session(*files) as session:
         before = whole_table(session)
-        evidence, changed = renamed(evidence, {piece.id for piece in session.pieces()})
+        evidence, changed = renamed(evidence, set(session.ids))
         answered = [(command, session.run(written(command))[0][1][0]) for command in evidence]
         after = whole_table(session)
     known = {command.id: documents[command.document] for command in evidence if command.document in documents}
@@ -124,7 +119,7 @@ def told(evidence: list[Command], files: Sequence[str]) -> Told:
 
 def published_bounds(entry: Entry) -> tuple[int | None, int | None]:
     """The published bounds of an entry, as far as they are known here."""
-    value = published.value(*entry) if published else None
+    value = published.value(*entry)
     return (value.lower, value.upper) if value else (None, None)
 
 

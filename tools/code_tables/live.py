@@ -93,7 +93,7 @@ class Session:
         self._asked = ""
         self.refused: list[tuple[str, str]] = []
         self.submitted = 0
-        texts = [sessions.read_text(file) for file in [*(found_library() if library else []), *files]]
+        texts = [sessions.read_session(file) for file in [*(found_library() if library else []), *files]]
         try:
             # In a group of its own: Ctrl-C ends the call that it interrupts, and no session that waits.
             self._process = subprocess.Popen([program.program(), "session"], stdin=subprocess.PIPE, stdout=subprocess.PIPE, process_group=0)
@@ -247,6 +247,11 @@ class Session:
     def words(self, n: int, d: int, w: int | None = None) -> list[str]:
         """The words of a code of the entry, as many as the lower bound says, ascending."""
         return self.ask(f"list {entry_words(n, d, w)}")[1:]
+
+    @property
+    def ids(self) -> list[str]:
+        """The ids of the pieces that stand, by the replies so far."""
+        return list(self._standing.ids)
 
     def pieces(self) -> list[Piece]:
         """The pieces that stand."""

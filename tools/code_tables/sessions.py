@@ -20,6 +20,9 @@ Entry = tuple[int, ...]
 # The greatest length and the greatest distance of the table.
 LAST = 30
 
+# The words with which a command of a session begins.
+COMMANDS = ("submit", "withdraw", "show", "table", "explain", "list", "ledger", "dump")
+
 # The kinds of evidence without a size: those of upper bounds.
 SIZELESS = ("dual", "jdual", "odd", "jlocal")
 
@@ -239,9 +242,18 @@ def read_text(path: str | Path) -> str:
         raise Refusal(f"{path} can't be read: {fault.strerror}") from None
 
 
-def read_all(paths: Iterable[str | Path]) -> str:
+def read_session(path: str | Path) -> str:
+    """The text of a session; a file that holds other lines than commands is refused."""
+    text = read_text(path)
+    other = next((command for command in commands(text) if command.words[0] not in COMMANDS), None)
+    if other:
+        raise Refusal(f"{path} is no session: its line {other.line}, {quoted(' '.join(other.words))}, is no command; give sessions, as examples/library/*.session")
+    return text if not text or text.endswith("\n") else text + "\n"
+
+
+def read_sessions(paths: Iterable[str | Path]) -> str:
     """The texts of sessions, one behind the other."""
-    return "".join(text if text.endswith("\n") else text + "\n" for text in map(read_text, paths))
+    return "".join(map(read_session, paths))
 
 
 def entry_of(fields: dict[str, Any]) -> Entry:

@@ -4,6 +4,7 @@ import contextlib
 import io
 import os
 import re
+import signal
 import subprocess
 import sys
 import tempfile
@@ -21,10 +22,10 @@ EMPTY = ["code_tables", "--empty"]
 
 
 def code_tables(*words, text="", env=None):
-    """Runs the command: its output, what it said on standard error, its status."""
+    """Runs the command: its output, what it said on standard error but for how long it takes, its status."""
     ended = subprocess.run([sys.executable, "-m", "code_tables", *map(str, words)], input=text, cwd="/", env=(env or os.environ) | {"PYTHONPATH": str(TOOLS)},
                            capture_output=True, text=True)
-    return ended.stdout, ended.stderr, ended.returncode
+    return ended.stdout, re.sub(r"code-tables: .* s so far; Ctrl-C stops it\n", "", ended.stderr), ended.returncode
 
 
 class Words(unittest.TestCase):
@@ -73,8 +74,9 @@ class Words(unittest.TestCase):
 
     def test_ctrl_c_is_no_traceback(self):
         with mock.patch.object(cli, "show", side_effect=KeyboardInterrupt), contextlib.redirect_stderr(io.StringIO()) as said:
-            with mock.patch.dict(cli.COMMANDS, show=(*cli.COMMANDS["show"][:3], cli.show)):
-                self.assertEqual(cli.main(["show", "16", "6"]), 130)
+            with mock.patch.dict(cli.COMMANDS, show=(*cli.COMMANDS["show"][:3], cli.show)), mock.patch.object(sys, "argv", ["-m"]), self.assertRaises(SystemExit) as end:
+                cli.main(["show", "16", "6"])
+        self.assertEqual(end.exception.code, 130)
         self.assertEqual(said.getvalue(), "code-tables: stopped\n")
 
     def test_what_takes_more_than_two_seconds_is_said(self):
@@ -104,7 +106,7 @@ class Answers(unittest.TestCase):
         os.close(read)
         with open(write, "wb") as closed:
             ended = subprocess.run([sys.executable, "-m", *EMPTY, "table", "6"], stdout=closed, stderr=subprocess.PIPE, env=os.environ | {"PYTHONPATH": str(TOOLS)})
-        self.assertEqual((ended.stderr, ended.returncode), (b"", 0))
+        self.assertEqual((ended.stderr, ended.returncode), (b"", 128 + signal.SIGPIPE))
 
     def test_a_column(self):
         lines = code_tables("table", 6)[0].splitlines()
