@@ -40,22 +40,32 @@ def head(program: str | os.PathLike[str], sessions: list[str]) -> str:
     return HEAD.format(sum_of(program), sum_of(*sessions))
 
 
+# The answers that were read, by the state of the files that they were read from.
+_read: dict[tuple[object, ...], str] = {}
+
+
 def text() -> str:
     """The lines that the carried program wrote over the carried library; nothing where CODE_TABLES names another program, or where the file was
-    made by another program or from other sessions."""
+    made by another program or from other sessions. They are read once, and again where a file has changed."""
     program, place = places.carried_program(), places.carried_answers()
     if os.environ.get("CODE_TABLES") or program is None or not os.path.isfile(place):
         return ""
-    expected = head(program, places.library())
-    with open(place, encoding="ascii", errors="replace") as file:
-        told = file.read()
-    return told.removeprefix(expected) if told.startswith(expected) else ""
+    files = [place, program, *places.library()]
+    state = tuple((file, os.stat(file).st_mtime_ns, os.stat(file).st_size) for file in files)
+    if state not in _read:
+        _read.clear()
+        with open(place, encoding="ascii", errors="replace") as file:
+            told = file.read()
+        expected = head(program, places.library())
+        _read[state] = told.removeprefix(expected) if told.startswith(expected) else ""
+    return _read[state]
 
 
 def line(n: int, d: int, w: int | None = None) -> str | None:
     """The line that `show` answers for an entry over the library; None where it isn't known without the program."""
-    name = f"A({n},{d})" if w is None else f"A({n},{d},{w})"
-    return next((told for told in text().splitlines() if name in told), None)
+    told = text()
+    at = told.find(f"A({n},{d}) " if w is None else f"A({n},{d},{w}) ")
+    return told[told.rfind("\n", 0, at) + 1:].split("\n", 1)[0] if at >= 0 else None
 
 
 def column(d: int, w: int | None = None) -> list[str]:
