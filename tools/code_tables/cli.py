@@ -4,7 +4,7 @@
     256 <= A(17,6) <= 340
 
 Each subcommand has a description, `code-tables show -h`. The module imports little, so that a first answer comes at once: each subcommand
-imports what it wants."""
+imports what it needs."""
 
 import argparse
 import contextlib
@@ -265,7 +265,7 @@ def with_outputs(parser: argparse.ArgumentParser) -> None:
 
 
 def with_evidence(parser: argparse.ArgumentParser) -> None:
-    """A file of evidence, and what is said of it."""
+    """A file of evidence, and what describes it."""
     parser.add_argument("file", metavar="FILE", help="words, one a line; a list as Python or GAP prints it; or submissions. - is standard input")
     parser.add_argument("--generator", action="store_true", help="the words are the rows of a generator matrix")
     parser.add_argument("--distance", type=whole, metavar="D", help="the distance to state (the least of all pairs)")

@@ -138,7 +138,7 @@ def compared(improved: Improved) -> Iterator[str]:
 
 
 def described(command: Command, reply: str, known: dict[str, str]) -> Iterator[str]:
-    """What is said of one submission."""
+    """The lines on one submission."""
     entry = name_of(sessions.entry_of(command.fields)) if command.fields else "no entry"
     if reply.startswith("accepted "):
         size = sessions.words_of(reply)[3:]

@@ -218,7 +218,7 @@ class Session:
         return reply
 
     def submit(self, id: str, evidence: str | Iterable[object], d: int | None = None, cites: Sequence[str] = ()) -> int | None:
-        """Hands in evidence: a document in TOML, or the words of a code, as a text with a word a line, as texts, or as sequences of digits, with
+        """Submits evidence: a document in TOML, or the words of a code, as a text with a word a line, as texts, or as sequences of digits, with
         the distance d to state, the least where it is left out, and texts that say where the code comes from. The number of words of the piece,
         None for a dual; a refusal is an error."""
         words.check_id(id)
@@ -310,7 +310,7 @@ def shared(empty: bool = False) -> Session:
 
 
 def submit(id: str, evidence: str | Iterable[object], d: int | None = None, cites: Sequence[str] = (), *, empty: bool = False) -> int | None:
-    """Hands evidence in to the shared session: a document, or the words of a code; see Session.submit."""
+    """Submits evidence to the shared session: a document, or the words of a code; see Session.submit."""
     return shared(empty).submit(id, evidence, d, cites)
 
 

@@ -16,7 +16,7 @@ Known = list[tuple[str, str]]
 
 
 def _pattern(refusal: str) -> str:
-    """The pattern of a refusal, in which a word in capitals stands for any."""
+    """The pattern of a refusal, in which a word in capitals means any word."""
     return " ".join(r"\S+" if word.isupper() else re.escape(word) for word in refusal.split())
 
 
