@@ -14,18 +14,16 @@ import unittest
 from pathlib import Path
 from unittest import mock
 
-from support import FAKE, TOOLS, TOP, needs_program
+from support import FAKE, TOOLS, TOP, call, needs_program
 
 from code_tables import cli
-
-EMPTY = ["code_tables", "--empty"]
 
 
 def code_tables(*words, text="", env=None):
     """Runs the command: its output, what it said on standard error but for how long it takes, its status."""
-    ended = subprocess.run([sys.executable, "-m", "code_tables", *map(str, words)], input=text, cwd="/", env=(env or os.environ) | {"PYTHONPATH": str(TOOLS)},
-                           capture_output=True, text=True)
-    return ended.stdout, re.sub(r"code-tables: .* s so far; Ctrl-C stops it\n", "", ended.stderr), ended.returncode
+    with mock.patch.dict(os.environ, env or {}):
+        out, said, status = call("code_tables.cli", *words, text=text)
+    return out, re.sub(r"code-tables: .* s so far; Ctrl-C stops it\n", "", said), status
 
 
 class Words(unittest.TestCase):
@@ -105,13 +103,12 @@ class Answers(unittest.TestCase):
         read, write = os.pipe()
         os.close(read)
         with open(write, "wb") as closed:
-            ended = subprocess.run([sys.executable, "-m", *EMPTY, "table", "6"], stdout=closed, stderr=subprocess.PIPE, env=os.environ | {"PYTHONPATH": str(TOOLS)})
+            ended = subprocess.run([sys.executable, "-m", "code_tables", "--empty", "table", "6"], stdout=closed, stderr=subprocess.PIPE, env=os.environ | {"PYTHONPATH": str(TOOLS)})
         self.assertEqual((ended.stderr, ended.returncode), (b"", 128 + signal.SIGPIPE))
 
     def test_a_column(self):
         lines = code_tables("table", 6)[0].splitlines()
         self.assertEqual((len(lines), lines[16]), (30, "256 <= A(17,6) <= 340"))
-        self.assertEqual(code_tables("table", 8, 8)[0].splitlines()[16], "A(24,8,8) = 759")
 
     def test_a_derivation_is_verified(self):
         derivation = code_tables("explain", "upper", 16, 6)[0]
@@ -132,13 +129,12 @@ class Answers(unittest.TestCase):
         self.assertIn("find-22-10 is accepted: dual of A(22,10)\n", out)
         self.assertIn("  A(22,10): upper bound 95 instead of 160", out)
 
-    def test_citation_page_and_data(self):
-        self.assertTrue(code_tables("cite", 16, 6)[0].startswith("@"))
+    def test_citation_and_data(self):
+        self.assertTrue(code_tables("cite", 16, 6, "--empty")[0].startswith("@"))
         self.assertIn("lower bound 256\n", code_tables("cite", 16, 6, "--text")[0])
         with tempfile.TemporaryDirectory() as folder:
             self.assertEqual(code_tables("export", "--empty", "--csv", Path(folder) / "table.csv")[::2], ("", 0))
             self.assertEqual((Path(folder) / "table.csv").read_text().count("\n"), 7771)
-        self.assertTrue(code_tables("page", "--empty", "--without-derivations")[0].startswith("<!DOCTYPE html>"))
 
 
 if __name__ == "__main__":

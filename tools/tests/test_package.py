@@ -4,9 +4,7 @@ import ast
 import doctest
 import importlib
 import pkgutil
-import subprocess
 import sys
-import tempfile
 import tomllib
 import unittest
 
@@ -36,17 +34,6 @@ class Sources(unittest.TestCase):
                         arguments = [one for one in node.args.args + node.args.kwonlyargs if one.arg != "self"]
                         self.assertTrue(node.returns is not None and all(one.annotation is not None for one in arguments))
                         self.assertTrue(ast.get_docstring(node) or node.name.startswith("_"))
-
-    def test_it_can_be_installed(self):
-        with tempfile.TemporaryDirectory() as folder:
-            ended = subprocess.run([sys.executable, "-m", "pip", "install", "--quiet", "--no-index", "--disable-pip-version-check",
-                                    "--target", f"{folder}/there", TOOLS], cwd=folder, capture_output=True, text=True)
-            if "No module named pip" in ended.stderr:
-                self.skipTest("there is no pip")
-            self.assertEqual(ended.returncode, 0, ended.stderr)
-            imported = subprocess.run([sys.executable, "-c", "import code_tables; print(code_tables.__file__)"], cwd="/",
-                                      env={"PYTHONPATH": f"{folder}/there"}, capture_output=True, text=True)
-            self.assertEqual(imported.stdout, f"{folder}/there/code_tables/__init__.py\n", imported.stderr)
 
     def test_the_checker_shares_nothing_with_it(self):
         self.assertNotIn("code_tables", [name for node in ast.walk(ast.parse((TOOLS / "check_derivation.py").read_text()))

@@ -32,20 +32,25 @@ def wheel_in(folder, file=None):
 
 
 class Distributions(unittest.TestCase):
+    @classmethod
+    def setUpClass(cls):
+        folder = tempfile.TemporaryDirectory()
+        cls.addClassCleanup(folder.cleanup)
+        cls.pure = wheel_in(folder.name)
+
     def setUp(self):
         folder = tempfile.TemporaryDirectory()
         self.addCleanup(folder.cleanup)
         self.folder = Path(folder.name)
 
     def test_a_wheel_without_a_program_is_for_any_platform(self):
-        wheel = wheel_in(self.folder)
-        self.assertEqual(wheel.name, "code_tables-0.9-py3-none-any.whl")
-        names = zipfile.ZipFile(wheel).namelist()
+        self.assertEqual(self.pure.name, "code_tables-0.9-py3-none-any.whl")
+        names = zipfile.ZipFile(self.pure).namelist()
         self.assertEqual([name for name in names if "carried/program" in name or "answers" in name], ["code_tables/answers.py"])
         self.assertEqual(sorted(name.split("/")[-1] for name in names if "/library/" in name), LIBRARY)
 
     def test_its_metadata(self):
-        with zipfile.ZipFile(wheel_in(self.folder)) as wheel:
+        with zipfile.ZipFile(self.pure) as wheel:
             told = email.message_from_bytes(wheel.read("code_tables-0.9.dist-info/METADATA"))
             self.assertEqual((told["Metadata-Version"], told["Name"], told["Version"], told["License-Expression"], told["Requires-Python"]),
                              ("2.4", "code-tables", "0.9", "MIT OR Apache-2.0", ">=3.11"))
@@ -71,7 +76,7 @@ class Distributions(unittest.TestCase):
         (self.folder / "again").mkdir()
         made = subprocess.run([sys.executable, "-c", script, self.folder / "again"], cwd=source, env=BARE, capture_output=True, text=True)
         self.assertEqual(made.stdout, "code_tables-0.9-py3-none-any.whl\n", made.stderr)
-        self.assertEqual((self.folder / "again" / made.stdout.strip()).read_bytes(), wheel_in(self.folder).read_bytes())
+        self.assertEqual((self.folder / "again" / made.stdout.strip()).read_bytes(), self.pure.read_bytes())
 
     def test_a_platform_wheel_carries_the_program_with_its_record(self):
         file = self.folder / "program"
@@ -132,11 +137,11 @@ class Installed(unittest.TestCase):
         folder = tempfile.TemporaryDirectory()
         cls.addClassCleanup(folder.cleanup)
         cls.folder = Path(folder.name)
-        cls.wheel = wheel_in(cls.folder, program.file())
         venv.create(cls.folder / "venv", with_pip=False)
         site = next((cls.folder / "venv").glob("lib/python*/site-packages"))
-        ended = subprocess.run([sys.executable, "-m", "pip", "install", "--quiet", "--no-index", "--no-deps", "--disable-pip-version-check",
-                                "--prefix", cls.folder / "venv", "--ignore-installed", cls.wheel], capture_output=True, text=True)
+        ended = subprocess.run([sys.executable, "-m", "pip", "install", "--quiet", "--no-index", "--no-deps", "--no-build-isolation", "--disable-pip-version-check",
+                                "--prefix", cls.folder / "venv", "--ignore-installed", "--config-settings", f"program={program.file()}", TOOLS],
+                               cwd=cls.folder, capture_output=True, text=True)
         if "No module named pip" in ended.stderr:
             raise unittest.SkipTest("there is no pip")
         if ended.returncode:
@@ -178,13 +183,11 @@ class Installed(unittest.TestCase):
 
     def test_the_other_commands_run_there(self):
         for words, start in ((["cite", "9", "4"], "@"), (["explain", "upper", "16", "6"], "derivation\n"), (["list", "9", "6"], "000000000\n"),
-                             (["--version"], "code-tables 0.9\nprogram "), (["page", "--without-derivations"], "<!DOCTYPE html>")):
+                             (["--version"], "code-tables 0.9\nprogram "), (["page", "--empty", "--without-derivations"], "<!DOCTYPE html>")):
             with self.subTest(words=words):
                 ended = self.code_tables(*words)
                 self.assertTrue(ended.stdout.startswith(start), ended.stdout[:200] + ended.stderr)
                 self.assertEqual(ended.returncode, 0)
-        derivation = self.code_tables("explain", "upper", "16", "6").stdout
-        self.assertEqual(self.code_tables("verify", "-", text=derivation).stdout, "yes\n")
 
 
 if __name__ == "__main__":
