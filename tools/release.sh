@@ -19,6 +19,17 @@ folder=$1
 shift
 [ -n "$folder" ] && [ ! -e "$folder" ] || fail "$folder is there already"
 [ $# -gt 0 ] || set -- "$top"/examples/library/*.session
+PYTHONPATH=$tools python3 - "$@" <<'END' || fail "no folder is made: withdraw or mend what is refused"
+import sys
+from code_tables import program, sessions
+try:
+    text = sessions.read_sessions(sys.argv[1:])
+    replies = sessions.replies(sessions.commands(text), program.run(text))
+    sys.exit("\n".join(f"release: {' '.join(command.words)}: {reply[0]}" for command, reply in replies
+                       if reply and reply[0].startswith("refused ") and command.words != ["ledger"]) or None)
+except sessions.Refusal as refusal:
+    sys.exit(f"release: refused: {refusal}")
+END
 mkdir -p -- "$folder/library" || fail "can't make $folder"
 folder=$(cd -- "$folder" && pwd) || exit 1
 trap 'rm -rf -- "$folder"' EXIT

@@ -283,7 +283,7 @@ COMMANDS: dict[str, tuple[str, str, Callable[[argparse.ArgumentParser], None], C
     "cite": ("how a bound is cited, as BibTeX", "code-tables cite 17 6 > bounds.bib", with_citation, cite),
     "verify": ("the program's verdict on a derivation: yes, or no and why; ends with 1 at no", "code-tables verify upper.derivation", with_file, verify),
     "find": ("a dual for the upper bound, by linear programming, as a submission", "code-tables find 22 10 | code-tables improves -", with_entry, find),
-    "improves": ("each entry that new evidence improves, over the library and over published values, and what to do next",
+    "improves": ("each entry that new evidence improves, over the library and over published values, and what to do next; ends with 1 where some is refused",
                  "code-tables improves words.txt --write new.session", with_evidence, improves),
     "page": ("the table as a page; further options are those of page.py", "code-tables page > table.html", with_nothing, page),
     "export": ("the table as data", "code-tables export --csv table.csv --json table.json", with_outputs, export),

@@ -167,7 +167,7 @@ class Release(unittest.TestCase):
         with tempfile.TemporaryDirectory() as place:
             ended = self.release(Path(place) / "new", SMALL)
             self.assertEqual((ended.returncode, list(Path(place).iterdir())), (1, []))
-            self.assertIn("release: the page could not be made", ended.stderr)
+            self.assertEqual(ended.stderr, "release: submit hexa: refused taken\nrelease: no folder is made: withdraw or mend what is refused\n")
 
 
 if __name__ == "__main__":
