@@ -7,11 +7,9 @@ import re
 import signal
 import subprocess
 import sys
-import tempfile
 import time
 import tomllib
 import unittest
-from pathlib import Path
 from unittest import mock
 
 from support import FAKE, TOOLS, TOP, call, needs_program
@@ -129,12 +127,19 @@ class Answers(unittest.TestCase):
         self.assertIn("find-22-10 is accepted: dual of A(22,10)\n", out)
         self.assertIn("  A(22,10): upper bound 95 instead of 160", out)
 
-    def test_citation_and_data(self):
+    def test_a_citation(self):
         self.assertTrue(code_tables("cite", 16, 6, "--empty")[0].startswith("@"))
         self.assertIn("lower bound 256\n", code_tables("cite", 16, 6, "--text")[0])
-        with tempfile.TemporaryDirectory() as folder:
-            self.assertEqual(code_tables("export", "--empty", "--csv", Path(folder) / "table.csv")[::2], ("", 0))
-            self.assertEqual((Path(folder) / "table.csv").read_text().count("\n"), 7771)
+
+    def test_a_tool_gets_the_sessions_and_its_own_options(self):
+        library = [str(TOP / "examples/library" / name) for name in sorted(os.listdir(TOP / "examples/library")) if name.endswith(".session")]
+        with mock.patch.object(cli, "run_tool", return_value=0) as run:
+            for words, tool, options in ((["export", "--csv", "a.csv", "--json", "a.json"], "table_data", ["--csv", "a.csv", "--json", "a.json", *library]),
+                                         (["export", "--empty", "--csv", "a.csv"], "table_data", ["--csv", "a.csv", os.devnull]),
+                                         (["page", "--empty", "--words", "folder"], "page", ["--words", "folder", os.devnull]),
+                                         (["cite", 24, 8, 8, "--with", "new"], "cite", ["--bibtex", "24", "8", "8", *library, "new"])):
+                self.assertEqual(code_tables(*words), ("", "", 0))
+                self.assertEqual(run.call_args.args[:2], (tool, options))
 
 
 if __name__ == "__main__":

@@ -164,9 +164,9 @@ class Installed(unittest.TestCase):
 
     def test_a_first_answer_takes_at_most_twenty_empty_sessions(self):
         def least(words):
-            """The least time of ten runs."""
+            """The least time of five runs."""
             times = []
-            for _ in range(10):
+            for _ in range(5):
                 begin = time.monotonic()
                 subprocess.run(words, stdin=subprocess.DEVNULL, stdout=subprocess.DEVNULL, cwd="/", env=BARE, check=True)
                 times.append(time.monotonic() - begin)
