@@ -1,6 +1,7 @@
 """What answers first: bounds over the library, which a platform wheel carries. All else is left to `live` and to `cli`, which import more."""
 
 import sys
+from contextlib import suppress
 
 from . import answers
 from .answers import Bounds
@@ -25,13 +26,24 @@ def bounds(n: int, d: int, w: int | None = None, *, empty: bool = False) -> Boun
     return shared(empty).bounds(n, d, w)
 
 
+def at_once(words: list[str]) -> list[str]:
+    """The lines that answer `show N D [W]` or `table D [W]` over the library, where they are known without the program; else none."""
+    if not words or not all(word.isascii() and word.isdigit() for word in words[1:]):
+        return []
+    command, *numbers = words
+    if command == "show" and len(numbers) in (2, 3):
+        line = answers.line(*map(int, numbers))
+        return [line] if line else []
+    return answers.column(*map(int, numbers)) if command == "table" and len(numbers) in (1, 2) else []
+
+
 def main() -> None:
-    """The command `code-tables`: `show N D` and `show N D W` are answered at once where the wheel carries the answer."""
-    words = sys.argv[1:]
-    if words[:1] == ["show"] and len(words) in (3, 4) and all(word.isascii() and word.isdigit() for word in words[1:]):
-        line = answers.line(*map(int, words[1:]))
-        if line is not None:
-            print(line)
+    """The command `code-tables`: bounds are answered at once where the wheel carries the answer."""
+    lines = at_once(sys.argv[1:])
+    if lines:
+        # Where nobody reads, the whole command is left to end as it does.
+        with suppress(BrokenPipeError):
+            print("\n".join(lines), flush=True)
             return
     from .cli import main
     main()
