@@ -1,1 +1,1 @@
-mod ModeLemmas
+pub mod ModeLemmas

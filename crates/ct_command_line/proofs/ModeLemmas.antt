@@ -1,5 +1,5 @@
 -- What an answer of `clap` says of the mode that the words name.
-use Rattle.std.proofs.Common.{◌≡◌, ◌∙◌, inl, inr, ap, ap₂, sym, refl, true, codes, List, [], ◌∷◌, Option, None}
+use Rattle.std.proofs.Common.{◌≡◌, ◌∙◌, inl, inr, ap, ap₂, sym, refl, true, codes, List, [], ◌∷◌, Option, Some, None}
 use Rattle.std.specs.Prelude.{◌≢◌}
 use Rattle.clap.specs.Words.{App, HasKind, HasMatchesOf, Kinds, Text, fault_of, first_value, found_of, is_simple, is_simple_and_free, kind_of, matches_of}
 use Rattle.clap.specs.declared.error.Error.{Error}
@@ -8,6 +8,7 @@ use Rattle.clap.specs.declared.parser.matches.ArgMatches.{ArgMatches}
 use Rattle.clap.proofs.OnLiterals.{clap_on_literals}
 use Rattle.clap.proofs.WalkLemmas.{first_value-rows}
 use Rattle.ct_command_line.specs.declared.mode.Mode.{Mode}
+use Rattle.ct_command_line.specs.declared.mode.Mode.TheVariants.{Session}
 use Rattle.ct_command_line.specs.CommandLine.{command_line, mode_from, mode_of, mode_of_matches, unless_fault}
 
 is_plain : is_simple command_line ≡ true
@@ -22,6 +23,11 @@ some_fault : (kinds : Kinds) (e : Error) (mode : Option Mode) → HasKind kinds 
 some_fault [] e mode (inl h) other = absurd (other h)
 some_fault [] e mode (inr h) other = elim h [ ]
 some_fault (k ∷ kinds) e mode h other = refl
+
+-- the word `session`, alone, names the mode
+pub session_named : mode_of (codes "session" ∷ []) ≡ Some Session
+unfolding clap_on_literals mode_of command_line
+session_named = refl
 
 -- an error other than want of memory: the words name no mode
 pub refused : (app : App) (words : List Text) (e : Error) → app ≡ command_line → (is_simple_and_free app ≡ true → HasKind (fault_of app words) e)

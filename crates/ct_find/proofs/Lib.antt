@@ -4,3 +4,4 @@ mod EntryLemmas
 mod ReplyLemmas
 mod FoundLemmas
 pub mod FoundDuals
+pub mod Truths

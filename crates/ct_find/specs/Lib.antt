@@ -1,2 +1,3 @@
 pub mod Proposal
 pub mod Reply
+pub mod Truth

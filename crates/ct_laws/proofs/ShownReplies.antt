@@ -16,7 +16,7 @@ use Rattle.ct_piece.specs.Standing.{AreStanding}
 use Rattle.ct_piece.specs.Supports.{supports_of}
 use Rattle.ct_rule_codes.specs.CodeEntry.{entry_of_code}
 use Rattle.ct_session.specs.Reply.{AreBoundsOf, IsShowReply, IsExplainReply, IsListReply}
-use Rattle.ct_replies.specs.Text.{code_text}
+use Rattle.ct_replies.specs.Text.{listed_text}
 use Rattle.ct_replies.specs.declared.reply.Bounds.{Bounds}
 use Rattle.ct_replies.specs.declared.reply.Reply.{Reply}
 use Rattle.ct_replies.specs.declared.reply.Reply.TheVariants.{Shown, Lines}
@@ -48,7 +48,7 @@ explained_shown pieces side (Some e) b r stand h k =
 
 -- a code that is listed is as large as the lower bound that is shown
 pub listed_shown : (pieces : List PieceValue) (o : Option Entry) (b : Bounds) (r : Reply) → IsShowReply pieces o (Shown b) → IsListReply pieces o r
-    → (c : CodeValue) × IsSoundCode c × (entry_of_code c ≡ b.entry) × (length c.words ≡ b.lower) × (r ≡ Lines (code_text c))
+    → (c : CodeValue) × IsSoundCode c × (entry_of_code c ≡ b.entry) × (length c.words ≡ b.lower) × (r ≡ Lines (listed_text c))
 listed_shown pieces None b r h k = absurd cc
 listed_shown pieces (Some e) b r h k =
     let of_entry = bounds_shown pieces e b h in (

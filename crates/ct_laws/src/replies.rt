@@ -20,7 +20,7 @@ ghost use Rattle.ct_rule_codes.specs.CodeEntry.{entry_of_code};
 ghost use Rattle.ct_session.specs.Reply.{AreBoundsOf, IsReply};
 ghost use Rattle.ct_replies.specs.Refusals.{is_refusal};
 ghost use Rattle.ct_session.specs.Run.{IsRun};
-ghost use Rattle.ct_replies.specs.Text.{code_text, reply_text};
+ghost use Rattle.ct_replies.specs.Text.{listed_text, reply_text};
 ghost use Rattle.ct_replies.specs.declared.reply.Bounds.{Bounds};
 ghost use Rattle.ct_replies.specs.declared.reply.Reply.{Reply};
 ghost use Rattle.ct_replies.specs.declared.reply.Reply.TheVariants.{Shown, Lines};
@@ -50,7 +50,7 @@ pub fn equal_bounds_are_exact()
 pub fn shown_lower_bounds_are_listed()
     ensures { (pieces : List PieceValue) (numbers : EntryNumbers) (b : Bounds) (r : Reply)
         → IsReply pieces (command.Show numbers) (Shown b) → IsReply pieces (command.List numbers) r
-        → (c : CodeValue) × IsSoundCode c × (entry_of_code c ≡ b.entry) × (length c.words ≡ b.lower) × (r ≡ Lines (code_text c)) }
+        → (c : CodeValue) × IsSoundCode c × (entry_of_code c ≡ b.entry) × (length c.words ≡ b.lower) × (r ≡ Lines (listed_text c)) }
 {}
 
 /// Each reply to `explain` that is no refusal is a document that is verified: over pieces that stand, whose documents are at most

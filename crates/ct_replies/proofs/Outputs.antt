@@ -10,6 +10,7 @@ use Rattle.ct_words.specs.Code.{CodeValue}
 use Rattle.ct_text.specs.EntryText.{weight_word}
 use Rattle.ct_piece.specs.Piece.{PieceValue}
 use Rattle.ct_piece.specs.Dump.{piece_dump, dump_text}
+use Rattle.ct_rule_codes.specs.CodeEntry.{entry_of_code}
 use Rattle.ct_replies.specs.Text.{code_heading}
 
 -- ---- the dump
@@ -45,19 +46,19 @@ weight_spelled n d w s =
 heading_from : List ℕ → List ℕ → List ℕ → List ℕ → List ℕ
 heading_from n d w s = codes "code " ++ (((((n ++ (32 ∷ d)) ++ w) ++ codes " size ") ++ s) ++ (10 ∷ []))
 
-heading_is : (c : CodeValue) (n d w s : List ℕ) → n ≡ decimal c.n → d ≡ decimal c.d → w ≡ weight_word c.w → s ≡ decimal (length c.words) → heading_from n d w s ≡ code_heading c
+heading_is : (c : CodeValue) (n d w s : List ℕ) → n ≡ decimal c.n → d ≡ decimal c.d → w ≡ weight_word c.w → s ≡ decimal (length c.words) → heading_from n d w s ≡ code_heading (entry_of_code c) (length c.words)
 unfolding heading_from
 heading_is c n d w s is_n is_d is_w is_s =
     ap (λ (t : List ℕ). heading_from t d w s) is_n ∙ ap (λ (t : List ℕ). heading_from (decimal c.n) t w s) is_d
     ∙ ap (λ (t : List ℕ). heading_from (decimal c.n) (decimal c.d) t s) is_w ∙ ap (λ (t : List ℕ). heading_from (decimal c.n) (decimal c.d) (weight_word c.w) t) is_s
 
 pub plain_heading : (c : CodeValue) (n d s : List ℕ) → n ≡ decimal c.n → d ≡ decimal c.d → None ≡ c.w → s ≡ decimal (length c.words)
-    → codes "code " ++ (n ++ (32 ∷ (d ++ (codes " size " ++ (s ++ (10 ∷ [])))))) ≡ code_heading c
+    → codes "code " ++ (n ++ (32 ∷ (d ++ (codes " size " ++ (s ++ (10 ∷ [])))))) ≡ code_heading (entry_of_code c) (length c.words)
 unfolding heading_from
 plain_heading c n d s is_n is_d is_w is_s = ap (λ (t : List ℕ). codes "code " ++ t) (plain_spelled n d s) ∙ heading_is c n d [] s is_n is_d (ap weight_word is_w) is_s
 
 pub weight_heading : (c : CodeValue) (n d s : List ℕ) (w : ℕ) (digits : List ℕ) → n ≡ decimal c.n → d ≡ decimal c.d → Some w ≡ c.w → digits ≡ decimal w → s ≡ decimal (length c.words)
-    → codes "code " ++ (n ++ (32 ∷ (d ++ (32 ∷ (digits ++ (codes " size " ++ (s ++ (10 ∷ [])))))))) ≡ code_heading c
+    → codes "code " ++ (n ++ (32 ∷ (d ++ (32 ∷ (digits ++ (codes " size " ++ (s ++ (10 ∷ [])))))))) ≡ code_heading (entry_of_code c) (length c.words)
 unfolding heading_from
 weight_heading c n d s w digits is_n is_d is_w is_digits is_s =
     ap (λ (t : List ℕ). codes "code " ++ t) (weight_spelled n d digits s) ∙ heading_is c n d (32 ∷ digits) s is_n is_d (ap (λ (t : List ℕ). 32 ∷ t) is_digits ∙ ap weight_word is_w) is_s

@@ -2,7 +2,7 @@
 use Rattle.std.specs.Prelude.{ℕ, List, [], Option, None, Some}
 use Rattle.ct_piece.specs.Piece.{PieceValue}
 use Rattle.ct_piece.specs.Dump.{dump_text}
-use Rattle.ct_replies.specs.Text.{code_text}
+use Rattle.ct_replies.specs.Text.{listed_text}
 use Rattle.ct_replies.specs.declared.reply.AnyReply.{AnyReply}
 use Rattle.ct_replies.specs.declared.reply.AnyReply.TheVariants.{Short, Long}
 use Rattle.ct_replies.specs.declared.reply.LongReply.{LongReply}
@@ -13,7 +13,7 @@ use Rattle.ct_replies.specs.declared.reply.Reply.TheVariants.{Lines}
 -- the text of a long reply, where these pieces stand
 abbrev pub long_text : LongReply → List PieceValue → List ℕ
 long_text long.Dump pieces = dump_text pieces
-long_text (long.Code code) pieces = code_text code
+long_text (long.Code code) pieces = listed_text code
 
 -- the reply that an answer is
 abbrev pub reply_of : AnyReply → List PieceValue → Reply

@@ -6,7 +6,7 @@ ghost use Rattle.std.specs.List.{flat_map};
 ghost use Rattle.ct_text.specs.EntryText.{entry_text};
 ghost use Rattle.ct_text.specs.Growing.{Grows};
 ghost use Rattle.ct_piece.specs.Text.{size_text, piece_text};
-ghost use Rattle.ct_replies.specs.Text.{refusal_text, bounds_text, reply_text, ended, ledger_text};
+ghost use Rattle.ct_replies.specs.Text.{refusal_text, bounds_line, bounds_text, reply_text, ended, ledger_text};
 
 use crate::reply::{Bounds, Refusal, Reply};
 use ct_files::submit_refusal;
@@ -52,7 +52,7 @@ fn put_lower(alloc: Global, text: &mut Vec<u8>, bounds: Bounds) -> Result<(), Al
 
 /// Puts the bounds of an entry at the end of the text.
 fn put_bounds(alloc: Global, text: &mut Vec<u8>, bounds: Bounds) -> Result<(), AllocError>
-    ensures ok { OnOk result (text.new.items ≡ text.old.items ++ bounds_text bounds) }
+    ensures ok { OnOk result (text.new.items ≡ text.old.items ++ bounds_text bounds.entry bounds.lower bounds.upper) }
     ensures grown { Grows text.old.items text.new.items }
 {
     if bounds.lower == bounds.upper {
@@ -88,7 +88,7 @@ pub fn ledger_text(alloc: Global, pieces: &[Piece]) -> Result<Vec<u8>, AllocErro
 
 /// Puts a line for the bounds of an entry at the end of the text.
 fn put_line(alloc: Global, text: &mut Vec<u8>, bounds: Bounds) -> Result<(), AllocError>
-    ensures ok { OnOk result (text.new.items ≡ text.old.items ++ ended (bounds_text bounds)) }
+    ensures ok { OnOk result (text.new.items ≡ text.old.items ++ bounds_line bounds) }
     ensures grown { Grows text.old.items text.new.items }
 {
     put_bounds(alloc, text, bounds)?;
@@ -98,7 +98,7 @@ fn put_line(alloc: Global, text: &mut Vec<u8>, bounds: Bounds) -> Result<(), All
 
 /// Puts a line for the bounds of each entry at the end of the text.
 fn put_column(alloc: Global, text: &mut Vec<u8>, column: &[Bounds]) -> Result<(), AllocError>
-    ensures ok { OnOk result (text.new.items ≡ text.old.items ++ flat_map (λ bounds. ended (bounds_text bounds)) column.now) }
+    ensures ok { OnOk result (text.new.items ≡ text.old.items ++ flat_map bounds_line column.now) }
     ensures grown { Grows text.old.items text.new.items }
 {
     for bounds in column {

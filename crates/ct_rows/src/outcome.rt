@@ -1,7 +1,7 @@
 //! What the program does with an input.
 
 use ct_io::{MemSink, MemSource};
-use ct_run::{Status, run};
+use ct_run::{Status, answer, run};
 use std::alloc::{AllocError, Global};
 
 /// What the program did with an input.
@@ -11,8 +11,8 @@ pub struct Outcome {
     pub status: Status,
     /// What it wrote.
     pub output: Vec<u8>,
-    /// How often it read.
-    pub read_calls: u32,
+    /// How often it read, where that was counted.
+    pub read_calls: Option<u32>,
 }
 
 impl Outcome {
@@ -27,16 +27,19 @@ impl Outcome {
         Ok(Outcome {
             status,
             output: sink.bytes.to_vec(alloc)?,
-            read_calls: source.calls,
+            read_calls: Some(source.calls),
         })
     }
 
-    /// What a mode of it does with the input, of which it gets at most 4,096 bytes at a read.
+    /// What a mode of it does with these bytes as its input.
     pub fn of_mode(alloc: Global, mode: &str, input: Vec<u8>) -> Result<Outcome, AllocError> {
         let words = [String::from_str(alloc, mode)?];
-        let source = MemSource::new(input, Vec::new(alloc), 4096);
-        let sink = MemSink::new(alloc, 262_144, Vec::new(alloc), 65_536)?;
-        Outcome::of_run(alloc, &words, source, sink)
+        let run = answer(alloc, &words, input)?;
+        Ok(Outcome {
+            status: run.status,
+            output: run.output,
+            read_calls: None,
+        })
     }
 
     /// What it wrote, as a text.

@@ -132,7 +132,7 @@ pub fn difference(
 ) -> Result<Option<String>, AllocError> {
     let outcome = run_on(alloc, row, &known.input, read)?;
     let status = format!(in alloc; "{:?}", outcome.status)?;
-    let calls = outcome.read_calls;
+    let calls = outcome.read_calls.unwrap_or(0);
     let is_read_as_known = number(row, "read_calls").unwrap_or(calls as usize) == calls as usize;
     if is_read_as_known
         && status.as_str() == text(row, "status")

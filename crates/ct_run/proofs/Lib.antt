@@ -5,3 +5,5 @@ mod Finding
 mod Sampling
 mod Usage
 mod NothingWritten
+mod Truths
+mod Answered

@@ -1,5 +1,5 @@
 -- Statuses: what they are of the run of a mode, and the numbers with which the program ends.
-use Rattle.std.specs.Prelude.{ℕ, Bool, false, List, Option, Some, None, Result, Ok, Err, codes}
+use Rattle.std.specs.Prelude.{ℕ, Bool, true, false, List, Option, Some, None, Result, Ok, Err, codes}
 use Rattle.ct_io.specs.declared.run_fault.RunFault.{RunFault}
 use Rattle.ct_io.specs.declared.run_fault.RunFault.TheVariants as run_fault
 use Rattle.ct_run.specs.Mode.{status_of}
@@ -15,6 +15,16 @@ status_number ReadFault = 3
 status_number WriteFault = 4
 status_number TooLong = 5
 status_number Memory = 6
+
+-- whether a device failed, or memory ran out
+abbrev pub has_failed : Status → Bool
+has_failed Done = false
+has_failed Refused = false
+has_failed Usage = false
+has_failed ReadFault = true
+has_failed WriteFault = true
+has_failed TooLong = false
+has_failed Memory = true
 
 -- what is said of a run with the status, where it is broken off
 abbrev pub status_reason : Status → Option (List ℕ)

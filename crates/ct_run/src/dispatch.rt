@@ -1,12 +1,18 @@
 //! The top call of the program.
 
-ghost use Rattle.std.specs.Prelude.{◌≡◌, ◌⊎◌, ◌≤◌, ◌+◌, ◌↔◌, IfSome, IfNone, IfOk, IfErr, IsSome, IsNone, IsTrue, Some, false, length};
+ghost use Rattle.std.specs.Prelude.{◌≡◌, ◌⊎◌, ◌≤◌, ◌+◌, ◌↔◌, ℕ, [], ◌∷◌, codes, IfSome, IfNone, IfOk, IfErr, IsSome, IsNone, IsTrue, Some, false, length};
 ghost use Rattle.std.specs.Io.KnownBytes.{Appends, IsAtEnd};
 ghost use Rattle.ct_io.specs.Faults.{Rose};
 ghost use Rattle.ct_io.specs.Told.{AppendsProperPrefix, WhereTold, IsAboveLimit, IsWithinLimit};
 ghost use Rattle.ct_io.specs.declared.TheConstants.{MAX_INPUT, MAX_READ};
 ghost use Rattle.ct_run.specs.Mode.{reads, is_reading, input_for, status_of, IsRunStatus, WritesOutput, WritesPrefix, WritesProperPrefix, LeftByMemory, LeftByReadFault, LeftByTooLong};
 ghost use Rattle.ct_command_line.specs.CommandLine.{mode_of, bytes_of};
+ghost use Rattle.ct_session.specs.Truth.{IsTrueAnswer, AreAnswers};
+ghost use Rattle.ct_session.specs.TrueLines.{IsTrueReason};
+ghost use Rattle.ct_verify.specs.Verification.{IsTrueVerdict};
+ghost use Rattle.ct_find.specs.Truth.{AreTrueReplies};
+ghost use Rattle.ct_sample.specs.Truth.{AreTrueSums};
+ghost use Rattle.ct_run.specs.Truth.{WritesAs};
 ghost use Rattle.ct_run.specs.Exit.{fault_status, result_status, summary_status};
 ghost use Rattle.ct_run.specs.Program.{usage_line, WritesUsage};
 ghost use Rattle.ct_run.specs.Inside.Ran.{Ran};
@@ -104,6 +110,19 @@ pub fn run<S: Source, K: Sink>(
         → WritesOutput mode (S.left source.old) (K.holds sink.old) (K.holds sink.new) result) }
     ensures to_end { IsTrue (is_reading (mode_of (bytes_of words.now))) → IsRunStatus result → IsAtEnd (S.left source.new) }
     ensures command { IsRunStatus result → IsSome (mode_of (bytes_of words.now)) }
+
+    // What it says of codes is true: of a session the bounds and the codes in its replies, and the lines of its explanations; the claims of a document
+    // that is verified; the bounds of duals that are found; the sums of a sample.
+    ensures true_bounds { bytes_of words.now ≡ codes "session" ∷ [] → IsRunStatus result
+        → WritesAs (AreAnswers IsTrueAnswer) (S.left source.old) (K.holds sink.old) (K.holds sink.new) }
+    ensures true_lines { mode_of (bytes_of words.now) ≡ Some Mode.Session → IsRunStatus result
+        → WritesAs (AreAnswers IsTrueReason) (S.left source.old) (K.holds sink.old) (K.holds sink.new) }
+    ensures true_claims { mode_of (bytes_of words.now) ≡ Some Mode.Verify → IsRunStatus result
+        → WritesAs IsTrueVerdict (S.left source.old) (K.holds sink.old) (K.holds sink.new) }
+    ensures true_duals { mode_of (bytes_of words.now) ≡ Some Mode.Find → IsRunStatus result
+        → WritesAs AreTrueReplies (S.left source.old) (K.holds sink.old) (K.holds sink.new) }
+    ensures true_sums { (number : ℕ) → mode_of (bytes_of words.now) ≡ Some (Mode.Sample number) → IsRunStatus result
+        → WritesAs (λ input output. AreTrueSums output) (Some []) (K.holds sink.old) (K.holds sink.new) }
 
     // Whatever the status, what was written is a prefix of an output; each fault says how much of it.
     ensures prefix { IfSome (mode_of (bytes_of words.now)) (λ mode.

@@ -4,11 +4,13 @@
 
 mod answering;
 mod dispatch;
+mod in_memory;
 mod serving;
 mod status;
 
 pub use answering::{explain, explanation, show, submit_any, table, withdraw, withdraw_all};
 pub use ct_command_line::{Mode, after_name, first_unknown_word};
 pub use dispatch::run;
+pub use in_memory::{Outcome, answer};
 pub use serving::serve_session;
 pub use status::Status;

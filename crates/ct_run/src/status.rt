@@ -22,7 +22,7 @@ pub enum Status {
 impl Status {
     ghost use Rattle.std.specs.Prelude.{◌≡◌};
     ghost use Rattle.std.specs.Option.{option_copied};
-    ghost use Rattle.ct_run.specs.Exit.{status_number, status_reason};
+    ghost use Rattle.ct_run.specs.Exit.{has_failed, status_number, status_reason};
 
     /// The number with which the program ends: 0 for `Done`, and 1 to 6 for the others in their order.
     pub fn number(self) -> u8
@@ -37,6 +37,16 @@ impl Status {
             Status::TooLong => 5,
             Status::Memory => 6,
         }
+    }
+
+    /// Whether a device failed, or memory ran out.
+    pub fn has_failed(self) -> bool
+        ensures { result ≡ has_failed self }
+    {
+        matches!(
+            self,
+            Status::ReadFault | Status::WriteFault | Status::Memory
+        )
     }
 
     /// What is said of a run that ends so, where it is broken off.

@@ -6,3 +6,4 @@ pub mod Running
 pub mod Stepping
 pub mod Summaries
 mod StepIds
+pub mod Truths

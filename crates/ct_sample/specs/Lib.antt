@@ -4,4 +4,5 @@ pub mod Command
 pub mod Run
 pub mod Summary
 pub mod Examples
+pub mod Truth
 pub mod Inside

@@ -33,7 +33,7 @@ use Rattle.ct_words.specs.TableEntries.{column}
 use Rattle.ct_session.specs.Reply.{IsReply, IsShowReply, IsTableReply, IsExplainReply, IsListReply, submission_reply, withdrawal_reply, withdrawal_all_reply, pieces_after}
 use Rattle.ct_replies.specs.Refusals.{is_refusal}
 use Rattle.ct_session.specs.Run.{AreReplies, AnswersCommands, IsRun, pieces_of}
-use Rattle.ct_replies.specs.Text.{reply_text, ledger_text, code_text}
+use Rattle.ct_replies.specs.Text.{reply_text, ledger_text, listed_text}
 use Rattle.ct_replies.specs.declared.reply.Reply.{Reply}
 use Rattle.ct_replies.specs.declared.reply.Reply.TheVariants.{Shown, Table, Lines, Refused}
 use Rattle.ct_replies.specs.declared.reply.Refusal.TheVariants as refusal
@@ -97,7 +97,7 @@ some_code pieces e h entry =
     )
 
 list_reply : (pieces : List PieceValue) (e : Entry) (b : Bool) → is_entry e ≡ b → AreStanding pieces → (r : Reply) × IsListReply pieces (cond b (Some e) None) r
-list_reply pieces e true entry h = let some = some_code pieces e h entry in (Lines (code_text some.0), record { code = some.0; listed = some.1; shown = refl })
+list_reply pieces e true entry h = let some = some_code pieces e h entry in (Lines (listed_text some.0), record { code = some.0; listed = some.1; shown = refl })
 list_reply pieces e false entry h = (Refused refusal.NoEntry, refl)
 
 -- a command has a reply

@@ -5,6 +5,8 @@ pub mod Taking
 pub mod FewLeft
 pub mod Serving
 pub mod Endings
+pub mod Truths
+pub mod TrueReasons
 mod PassingOver
 mod Gathering
 mod LineEndings

@@ -23,7 +23,7 @@ use Rattle.ct_piece.specs.declared.fault.WithdrawFault.{WithdrawFault}
 use Rattle.ct_derive.specs.Derivation.{DerivationValue}
 use Rattle.ct_explain.specs.Explained.{ExplainsBest, explanation_text}
 use Rattle.ct_derive.specs.Listed.{IsListedCode}
-use Rattle.ct_replies.specs.Text.{ledger_text, code_text}
+use Rattle.ct_replies.specs.Text.{ledger_text, listed_text}
 use Rattle.ct_replies.specs.declared.reply.Bounds.{Bounds}
 use Rattle.ct_replies.specs.declared.reply.Reply.{Reply}
 use Rattle.ct_replies.specs.declared.reply.Reply.TheVariants.{Accepted, Withdrawn, WithdrawnAll, Shown, Table, Lines, Refused}
@@ -92,7 +92,7 @@ IsExplainReply pieces side (Some e) reply = IsExplained pieces side e reply
 pub record IsListed (pieces : List PieceValue) (e : Entry) (reply : Reply) : Type 0 where
   pub code : CodeValue
   pub listed : IsListedCode (supports_of pieces) e code
-  pub shown : reply ≡ Lines (code_text code)
+  pub shown : reply ≡ Lines (listed_text code)
 
 -- the reply to `list`: a code of the entry that it names is shown; or a refusal where it names none of the table
 abbrev pub IsListReply : List PieceValue → Option Entry → Reply → Type 0

@@ -6,3 +6,4 @@ mod LimitLemmas
 mod StatedSteps
 pub mod ReadingLemmas
 pub mod VerdictLemmas
+pub mod Truths

@@ -3,7 +3,8 @@
 ghost use Rattle.std.specs.Prelude.{◌≡◌, ◌≤◌, ◌<◌, ◌+◌, ◌*◌, ◌^◌, All, length};
 ghost use Rattle.ct_io.specs.Buffered.{buffered, IsPut};
 ghost use Rattle.ct_words.specs.declared.limits.TheConstants.{MAX_N};
-ghost use Rattle.ct_replies.specs.Text.{code_heading, word_lines, code_text};
+ghost use Rattle.ct_rule_codes.specs.CodeEntry.{entry_of_code};
+ghost use Rattle.ct_replies.specs.Text.{code_heading, word_lines, listed_text};
 ghost use Rattle.ct_replies.specs.Inside.Texts.{AreTexts};
 
 use crate::output::word_lines::{EightDigits, eight_digits, print_lines};
@@ -24,7 +25,7 @@ fn put_code_heading<K: Sink>(
     code: &Code,
 ) -> Result<(), Failed>
     ensures { IsPut (buffered K.holds K.faults sink.old buffer.old)
-        (buffered K.holds K.faults sink.new buffer.new) (code_heading code.now) result }
+        (buffered K.holds K.faults sink.new buffer.new) (code_heading (entry_of_code code.now) (length code.now.words)) result }
 {
     let n = Digits::of(u64::from(code.n()));
     let d = Digits::of(u64::from(code.d()));
@@ -95,7 +96,7 @@ pub(crate) fn put_code<K: Sink>(
     code: &Code,
 ) -> Result<(), Failed>
     ensures { IsPut (buffered K.holds K.faults sink.old buffer.old)
-        (buffered K.holds K.faults sink.new buffer.new) (code_text code.now) result }
+        (buffered K.holds K.faults sink.new buffer.new) (listed_text code.now) result }
 {
     put_code_heading(sink, buffer, code)?;
     put_words(sink, buffer, code.n(), code.words())

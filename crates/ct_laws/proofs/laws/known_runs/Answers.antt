@@ -15,7 +15,7 @@ use Rattle.ct_rules.specs.declared.rule.Rule.TheVariants.{M1, V0, V1}
 use Rattle.ct_rules.specs.Rule.{row_of}
 use Rattle.ct_explain.specs.Explained.{explanation_text}
 use Rattle.ct_words.specs.TableEntries.{column}
-use Rattle.ct_replies.specs.Text.{reply_text, ledger_text, code_text}
+use Rattle.ct_replies.specs.Text.{reply_text, ledger_text, listed_text}
 use Rattle.ct_replies.specs.declared.reply.Reply.TheVariants.{Shown, Table, Lines, Refused}
 use Rattle.ct_replies.specs.declared.reply.Refusal.TheVariants as refusal
 use Rattle.ct_replies.specs.declared.reply.Bounds.{Bounds}
@@ -75,7 +75,7 @@ pub returns-clause-listed : goal.returns-clause-listed
 unfolding form_of words_of number_of reply_text digits word_text
 returns-clause-listed c =
     let listed = word_alone_listed in
-    record { replies = Lines (code_text word_alone) ∷ []; are = (record { code = word_alone; listed = listed; shown = refl }, tt); texts = refl; mark = refl }
+    record { replies = Lines (listed_text word_alone) ∷ []; are = (record { code = word_alone; listed = listed; shown = refl }, tt); texts = refl; mark = refl }
 
 pub returns-clause-not_listed : goal.returns-clause-not_listed
 unfolding form_of words_of number_of reply_text digits withdrawn

@@ -3,6 +3,14 @@ use Rattle.ct_command_line.specs.CommandLine.{mode_of, bytes_of}
 use Rattle.ct_run.specs.Mode.{is_reading}
 use Rattle.ct_run.proofs.Statuses.{named_so}
 use Rattle.ct_run.proofs.Usage.{usage_ran}
+use Rattle.ct_command_line.proofs.ModeLemmas.{session_named}
+use Rattle.ct_run.proofs.Truths.{run_is_true}
+use Rattle.ct_verify.specs.Verification.{IsTrueVerdict}
+use Rattle.ct_find.specs.Truth.{AreTrueReplies}
+use Rattle.ct_sample.specs.Truth.{AreTrueSums}
+use Rattle.ct_session.specs.Truth.{IsTrueAnswer, AreAnswers}
+use Rattle.ct_session.specs.TrueLines.{IsTrueReason}
+use Rattle.ct_command_line.specs.declared.mode.Mode.TheVariants.{Session, Verify, Find, Sample}
 use Rattle.ct_run.proofs.NothingWritten.{want_ran}
 use Rattle.ct_run.proofs.dispatch.run.Goals as goal
 
@@ -14,6 +22,11 @@ returns-in-Ok-Some g c =
       run = ran.run;
       to_end = ran.to_end;
       command = ran.command;
+      true_bounds = λ alone. run_is_true (AreAnswers IsTrueAnswer) Session _ _ _ _ _ (λ i o t. t.0) ran.run (ap mode_of alone ∙ session_named);
+      true_lines = run_is_true (AreAnswers IsTrueReason) Session _ _ _ _ _ (λ i o t. t.1) ran.run;
+      true_claims = run_is_true IsTrueVerdict Verify _ _ _ _ _ (λ i o t. t) ran.run;
+      true_duals = run_is_true AreTrueReplies Find _ _ _ _ _ (λ i o t. t) ran.run;
+      true_sums = λ number. run_is_true (λ i o. AreTrueSums o) (Sample number) _ _ _ _ _ (λ i o t. t) ran.run;
       prefix = ran.prefix;
       written_in_part = ran.written_in_part;
       after_read_fault = ran.after_read_fault;
@@ -37,6 +50,11 @@ returns-in-Ok-None g c =
       run = ran.run;
       to_end = ran.to_end;
       command = ran.command;
+      true_bounds = λ alone. run_is_true (AreAnswers IsTrueAnswer) Session _ _ _ _ _ (λ i o t. t.0) ran.run (ap mode_of alone ∙ session_named);
+      true_lines = run_is_true (AreAnswers IsTrueReason) Session _ _ _ _ _ (λ i o t. t.1) ran.run;
+      true_claims = run_is_true IsTrueVerdict Verify _ _ _ _ _ (λ i o t. t) ran.run;
+      true_duals = run_is_true AreTrueReplies Find _ _ _ _ _ (λ i o t. t) ran.run;
+      true_sums = λ number. run_is_true (λ i o. AreTrueSums o) (Sample number) _ _ _ _ _ (λ i o t. t) ran.run;
       prefix = ran.prefix;
       written_in_part = ran.written_in_part;
       after_read_fault = ran.after_read_fault;
@@ -59,6 +77,11 @@ returns-in-Err g c =
       run = ran.run;
       to_end = ran.to_end;
       command = ran.command;
+      true_bounds = λ alone. run_is_true (AreAnswers IsTrueAnswer) Session _ _ _ _ _ (λ i o t. t.0) ran.run (ap mode_of alone ∙ session_named);
+      true_lines = run_is_true (AreAnswers IsTrueReason) Session _ _ _ _ _ (λ i o t. t.1) ran.run;
+      true_claims = run_is_true IsTrueVerdict Verify _ _ _ _ _ (λ i o t. t) ran.run;
+      true_duals = run_is_true AreTrueReplies Find _ _ _ _ _ (λ i o t. t) ran.run;
+      true_sums = λ number. run_is_true (λ i o. AreTrueSums o) (Sample number) _ _ _ _ _ (λ i o t. t) ran.run;
       prefix = ran.prefix;
       written_in_part = ran.written_in_part;
       after_read_fault = ran.after_read_fault;
