@@ -43,3 +43,4 @@ pub mod GrowthLemmas
 pub mod GivenDuals
 pub mod KnownClaims
 mod Mathematics
+mod ToldBytes

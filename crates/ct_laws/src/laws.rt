@@ -1,10 +1,12 @@
 //! Sessions whose output is known, and texts of replies.
 
-ghost use Rattle.std.specs.Prelude.{◌≡◌, ◌⊎◌, ◌↔◌, ◌∷◌, ℕ, ◌+◌, ◌-◌, ◌/◌, ◌%◌, ◌<◌, ◌≤◌, max, List, [], map, slice_get, Option, Some, None, IsTrue, false, true, codes};
+ghost use Rattle.std.specs.Prelude.{◌≡◌, ◌⊎◌, ◌↔◌, ◌∷◌, ℕ, ◌+◌, ◌-◌, ◌/◌, ◌%◌, ◌<◌, ◌≤◌, max, List, [], map, slice_get, Option, Some, None, IsTrue, false, true, pos, negsuc, codes};
 ghost use Rattle.std.specs.List.{range_with_len};
 ghost use Rattle.ct_words.specs.declared.limits.TheConstants.{MAX_N};
 ghost use Rattle.ct_text.specs.Gathering.{is_end};
 ghost use Rattle.ct_words.specs.declared.fault.CodeFault.TheVariants as code;
+ghost use Rattle.ct_classes.specs.declared.fault.PartitionFault.TheVariants as partition;
+ghost use Rattle.ct_duals.specs.declared.fault.DualFault.TheVariants as dual;
 ghost use Rattle.ct_build.specs.declared.fault.BuildFault.TheVariants as build;
 ghost use Rattle.ct_fields.specs.declared.field.FieldName.TheVariants as name;
 ghost use Rattle.ct_fields.specs.declared.fault.DocumentFault.TheVariants as file;
@@ -137,6 +139,13 @@ pub fn known_texts()
     ensures built_size { reply_text (Refused (refusal.Submission (submit.Build (build.Size 262145)))) ≡ codes "refused size 262145\n" }
     ensures few { reply_text (Refused (refusal.Submission (submit.Build (build.Few 2048 2049)))) ≡ codes "refused few 2048 2049\n" }
     ensures empty { reply_text (Refused (refusal.Submission (submit.Build build.Empty))) ≡ codes "refused empty\n" }
+    ensures code_size { reply_text (Refused (refusal.Submission (submit.Code (code.Size 0)))) ≡ codes "refused size 0\n" }
+    ensures partition_size { reply_text (Refused (refusal.Submission (submit.Partition (partition.Size 4097)))) ≡ codes "refused size 4097\n" }
+    ensures partition_weight { reply_text (Refused (refusal.Submission (submit.Partition (partition.Weight 3)))) ≡ codes "refused weight 3\n" }
+    ensures partition_repeated { reply_text (Refused (refusal.Submission (submit.Partition (partition.Repeated 2 5)))) ≡ codes "refused repeated 2 5\n" }
+    ensures partition_close { reply_text (Refused (refusal.Submission (submit.Partition (partition.Close 0 2 2 0 1 3)))) ≡ codes "refused close 0 2 2 classes 0 1 need 3\n" }
+    ensures lead { reply_text (Refused (refusal.Submission (submit.Dual dual.Lead))) ≡ codes "refused lead\n" }
+    ensures above { reply_text (Refused (refusal.Submission (submit.Dual (dual.Above 12 (pos 48) (negsuc 46))))) ≡ codes "refused above 12 48 -47\n" }
     ensures nosuch { reply_text (Refused (refusal.Withdrawal (codes "hexa") withdraw.NoSuch)) ≡ codes "refused nosuch hexa\n" }
     ensures inuse { reply_text (Refused (refusal.Withdrawal (codes "golay") (withdraw.InUse (codes "oct")))) ≡ codes "refused inuse oct\n" }
 {}

@@ -4,6 +4,7 @@
 
 mod calls;
 mod chain;
+mod doubly;
 mod fields;
 mod listings;
 mod numbers;
@@ -29,6 +30,7 @@ fn main(rt: HostRuntime) -> anyhow::Result<()> {
     calls::run_all(&rt, &mut tally)?;
     numbers::run_all(&rt, &mut tally)?;
     chain::run_all(&rt, &mut tally)?;
+    doubly::run_all(&rt, &mut tally)?;
     listings::run_all(&rt, &mut tally)?;
     println!(rt; "{} rows, {} differ", tally.rows, tally.differ)?;
     let mut derivations = Tally::default();

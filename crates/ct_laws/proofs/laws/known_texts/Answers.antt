@@ -133,3 +133,31 @@ returns-clause-few c = refl
 pub returns-clause-empty : goal.returns-clause-empty
 unfolding reply_text digits
 returns-clause-empty c = refl
+
+pub returns-clause-code_size : goal.returns-clause-code_size
+unfolding reply_text digits
+returns-clause-code_size c = refl
+
+pub returns-clause-partition_size : goal.returns-clause-partition_size
+unfolding reply_text digits
+returns-clause-partition_size c = refl
+
+pub returns-clause-partition_weight : goal.returns-clause-partition_weight
+unfolding reply_text digits
+returns-clause-partition_weight c = refl
+
+pub returns-clause-partition_repeated : goal.returns-clause-partition_repeated
+unfolding reply_text digits
+returns-clause-partition_repeated c = refl
+
+pub returns-clause-partition_close : goal.returns-clause-partition_close
+unfolding reply_text digits
+returns-clause-partition_close c = refl
+
+pub returns-clause-lead : goal.returns-clause-lead
+unfolding reply_text digits
+returns-clause-lead c = refl
+
+pub returns-clause-above : goal.returns-clause-above
+unfolding reply_text digits
+returns-clause-above c = refl

@@ -21,6 +21,9 @@ pub returns-clause-words : goal.returns-clause-words
 unfolding drawn_evidence
 returns-clause-words c = step_below_ten 1 (class_evidence 8 3 3) (omega arith)
 
+pub returns-clause-classes : goal.returns-clause-classes
+returns-clause-classes c = refl
+
 pub returns-clause-cosets : goal.returns-clause-cosets
 unfolding drawn_evidence
 returns-clause-cosets c =
