@@ -470,9 +470,9 @@ def main():
             table_data.write_json(options.json, held)
         if options.schema:
             Path(options.schema).write_bytes((HERE / "table.schema.json").read_bytes())
-        sys.stdout.buffer.write(text.encode("utf-8", "surrogateescape"))
     except (Refusal, OSError) as fault:
         sys.exit(f"page: refused: {fault}")
+    sys.stdout.buffer.write(text.encode("utf-8", "surrogateescape"))
     for command, reply in held.refused:
         print(f"page: {' '.join(command.words)}: {reply}", file=sys.stderr)
     sys.exit(bool(held.refused))
