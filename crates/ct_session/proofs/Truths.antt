@@ -1,7 +1,10 @@
 -- Each answer in the output of a run is true.
-use Rattle.std.proofs.Common.{◌≡◌, ℕ, Bool, List, [], ◌∷◌, ◌++◌, Option, Some, None, refl, sym, ap, subst, ◌∙◌}
+use Rattle.std.proofs.Common.{◌≡◌, ℕ, ◌-◌, Bool, List, [], ◌∷◌, ◌++◌, length, map, slice_get, Option, Some, None, Result, Ok, Err, refl, sym, ap, subst, ◌∙◌, append-nil, append_assoc}
+use Rattle.std.specs.Prelude.{codes}
+use Rattle.std.specs.Fmt.{decimal}
 use Rattle.std.specs.List.{AllZip, flat_map}
 use Rattle.ct_words.specs.declared.entry.Entry.{Entry}
+use Rattle.ct_words.specs.declared.claim.Side.{Side}
 use Rattle.ct_words.specs.Code.{IsCodeOf, IsTrueLower, IsTrueUpper}
 use Rattle.ct_words.specs.TableEntries.{column}
 use Rattle.ct_io.specs.Lines.{lines_of}
@@ -11,15 +14,27 @@ use Rattle.ct_commands.specs.declared.command.Command.{Command}
 use Rattle.ct_commands.specs.declared.command.Command.TheVariants as command
 use Rattle.ct_commands.proofs.Naming.{AreNamed, commands_of-named}
 use Rattle.ct_piece.specs.Piece.{PieceValue}
+use Rattle.ct_piece.specs.declared.fault.WithdrawFault.{WithdrawFault}
+use Rattle.ct_piece.specs.Dump.{piece_dump, dump_text}
+use Rattle.ct_piece.specs.Submission.{submitted}
+use Rattle.ct_piece.specs.Text.{size_text, piece_text}
+use Rattle.ct_piece.specs.Withdrawal.{withdrawn, withdrawn_all}
 use Rattle.ct_piece.specs.Standing.{AreStanding}
 use Rattle.ct_piece.proofs.StandingLemmas.{AreStanding-none}
-use Rattle.ct_replies.specs.Text.{bounds_line, code_text, reply_text}
+use Rattle.ct_kind.specs.declared.fault.SubmitFault.{SubmitFault}
+use Rattle.ct_text.specs.DocumentLines.{line_count}
+use Rattle.ct_text.specs.declared.document_lines.TheConstants.{LINE_FEED}
+use Rattle.ct_derive.specs.Text.{block_text, lines_text}
+use Rattle.ct_replies.specs.Text.{ended, bounds_line, code_text, ledger_text, refusal_text, reply_text}
 use Rattle.ct_replies.specs.declared.reply.Bounds.{Bounds}
 use Rattle.ct_replies.specs.declared.reply.Reply.{Reply}
-use Rattle.ct_session.specs.Reply.{AreBoundsOf, IsReply, IsShowReply, IsTableReply, IsListReply, pieces_after}
+use Rattle.ct_replies.specs.declared.reply.Reply.TheVariants.{Lines, Refused}
+use Rattle.ct_replies.specs.declared.reply.Refusal.{Refusal}
+use Rattle.ct_replies.specs.declared.reply.Refusal.TheVariants as refusal
+use Rattle.ct_session.specs.Reply.{AreBoundsOf, IsReply, IsShowReply, IsTableReply, IsExplainReply, IsListReply, submission_reply, withdrawal_reply, withdrawal_all_reply, pieces_after}
 use Rattle.ct_session.specs.Run.{AreReplies, IsRun}
 use Rattle.ct_session.proofs.Existence.{AreStanding-after}
-use Rattle.ct_session.specs.Truth.{IsTrueLine, AreTrueLines, IsTrueList, IsTrueShow, IsTrueTable, IsTrueListing, IsTrueAnswer, AreAnswers}
+use Rattle.ct_session.specs.Truth.{IsTrueLine, AreTrueLines, AreWholeLines, IsTrueList, IsTrueShow, IsTrueTable, IsTrueListing, IsTrueAnswer, AreAnswers}
 
 -- bounds that are shown are true
 true_line : (pieces : List PieceValue) (e : Entry) (b : Bounds) → AreBoundsOf pieces e b → IsTrueLine e (bounds_line b)
@@ -64,19 +79,78 @@ true_listing pieces (Some e) r h = record {
   spelled = ap reply_text h.shown ∙ ap (λ (f : Entry). code_text f h.code.words) h.listed.entry;
 }
 
+-- a refusal is a line
+refused : (why : Refusal) (r : Reply) → r ≡ Refused why → AreWholeLines (reply_text r)
+unfolding reply_text
+refused why r h = (codes "refused " ++ refusal_text why, ap reply_text h)
+
+lines_of_submission : (id : List ℕ) (made : Result PieceValue SubmitFault) (r : Reply) → r ≡ submission_reply id made → AreWholeLines (reply_text r)
+unfolding reply_text
+lines_of_submission id (Ok piece) r h = (codes "accepted " ++ id ++ size_text piece.size, ap reply_text h)
+lines_of_submission id (Err fault) r h = refused (refusal.Submission fault) r h
+
+lines_of_withdrawal : (id : List ℕ) (left : Result (List PieceValue) WithdrawFault) (r : Reply) → r ≡ withdrawal_reply id left → AreWholeLines (reply_text r)
+unfolding reply_text
+lines_of_withdrawal id (Ok left) r h = (codes "withdrawn " ++ id, ap reply_text h)
+lines_of_withdrawal id (Err fault) r h = refused (refusal.Withdrawal id fault) r h
+
+lines_of_withdrawal_of_all : (id : List ℕ) (pieces : List PieceValue) (left : Result (List PieceValue) WithdrawFault) (r : Reply) → r ≡ withdrawal_all_reply id pieces left
+    → AreWholeLines (reply_text r)
+unfolding reply_text
+lines_of_withdrawal_of_all id pieces (Ok left) r h = (codes "withdrawn " ++ id ++ codes " count " ++ decimal (length pieces - length left), ap reply_text h)
+lines_of_withdrawal_of_all id pieces (Err fault) r h = refused (refusal.Withdrawal id fault) r h
+
+lines_of_explanation : (pieces : List PieceValue) (side : Side) (o : Option Entry) (r : Reply) → IsExplainReply pieces side o r → AreWholeLines (reply_text r)
+unfolding reply_text
+lines_of_explanation pieces side None r h = refused refusal.NoEntry r h
+lines_of_explanation pieces side (Some e) r h =
+    let d = h.derivation in
+    let before = codes "derivation" ++ LINE_FEED ∷ [] ++ flat_map (λ p. block_text (λ p. p.id) (λ p. p.document) (slice_get pieces p)) d.pieces
+    ++ lines_text (map (λ p. p.id) pieces) 1 d.lines in
+    (before ++ codes "done", ap reply_text h.shown)
+
+-- a text that is whole lines, and more of them
+more_lines : (text front : List ℕ) → AreWholeLines (text ++ ended front)
+more_lines text front = (text ++ front, sym (append_assoc text front (LINE_FEED ∷ [])))
+
+-- the line before a document in a dump
+submission_line : List ℕ → List ℕ → List ℕ
+submission_line id document = codes "submit " ++ id ++ codes " lines " ++ decimal (line_count document) ++ LINE_FEED ∷ []
+
+-- the comment that a dump begins with
+dump_heading : List PieceValue → List ℕ
+dump_heading pieces = codes "# dump of " ++ decimal (length pieces) ++ codes " pieces"
+
+lines_of_dump : (text : List ℕ) (pieces : List PieceValue) → AreWholeLines text → AreWholeLines (text ++ flat_map piece_dump pieces)
+unfolding submission_line
+lines_of_dump text [] (front, is) = (front, append-nil text ∙ is)
+lines_of_dump text (p ∷ ps) whole =
+    let (front, is) = lines_of_dump (text ++ piece_dump p) ps (more_lines text (submission_line p.id p.document ++ p.document)) in
+    (front, sym (append_assoc text (piece_dump p) (flat_map piece_dump ps)) ∙ is)
+
+lines_of_reply : (text : List ℕ) (r : Reply) → r ≡ Lines text → AreWholeLines text → AreWholeLines (reply_text r)
+unfolding reply_text
+lines_of_reply text r h (front, is) = (front, ap reply_text h ∙ is)
+
+lines_of_ledger : (pieces : List PieceValue) (r : Reply) → r ≡ Lines (ledger_text pieces) → AreWholeLines (reply_text r)
+lines_of_ledger pieces r h =
+    lines_of_reply (ledger_text pieces) r h (more_lines (flat_map (λ p. ended (piece_text p)) pieces) (codes "pieces " ++ decimal (length pieces)))
+
 -- so each answer to a command is true
 pub true_answer : (pieces : List PieceValue) (c : Command) (r : Reply) → AreStanding pieces → IsReply pieces c r → IsTrueAnswer c (reply_text r)
-true_answer pieces (command.Submission id document) r stand h = tt
-true_answer pieces command.CutOff r stand h = tt
-true_answer pieces (command.Withdraw id) r stand h = tt
-true_answer pieces (command.WithdrawAll id) r stand h = tt
+unfolding dump_heading
+true_answer pieces (command.Submission None document) r stand h = refused refusal.NoCommand r h
+true_answer pieces (command.Submission (Some id) document) r stand h = lines_of_submission id (submitted pieces id document) r h
+true_answer pieces command.CutOff r stand h = refused refusal.CutOff r h
+true_answer pieces (command.Withdraw id) r stand h = lines_of_withdrawal id (withdrawn pieces id) r h
+true_answer pieces (command.WithdrawAll id) r stand h = lines_of_withdrawal_of_all id pieces (withdrawn_all pieces id) r h
 true_answer pieces (command.Show numbers) r stand h = true_show pieces (named_entry numbers) r h
 true_answer pieces (command.Table numbers) r stand h = true_table pieces (column numbers.d numbers.w) r h
-true_answer pieces (command.Explain side numbers) r stand h = tt
+true_answer pieces (command.Explain side numbers) r stand h = lines_of_explanation pieces side (named_entry numbers) r h
 true_answer pieces (command.List numbers) r stand h = true_listing pieces (named_entry numbers) r h
-true_answer pieces command.Ledger r stand h = tt
-true_answer pieces command.Dump r stand h = tt
-true_answer pieces command.Unknown r stand h = tt
+true_answer pieces command.Ledger r stand h = lines_of_ledger pieces r h
+true_answer pieces command.Dump r stand h = lines_of_reply (dump_text pieces) r h (lines_of_dump _ pieces (dump_heading pieces, refl))
+true_answer pieces command.Unknown r stand h = refused refusal.NoCommand r h
 
 answers_of : (IsRight : Command → List ℕ → Type 0) (right : (pieces : List PieceValue) (c : Command) (r : Reply) → AreStanding pieces → IsReply pieces c r → IsRight c (reply_text r))
     (pieces : List PieceValue) (cs : List Command) (rs : List Reply) → AreNamed cs → AreStanding pieces → AreReplies pieces cs rs

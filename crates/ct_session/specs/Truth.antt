@@ -1,5 +1,5 @@
 -- What the output of a session says of codes, in plain numbers and texts: no evidence, no rule and no derivation occurs in it.
-use Rattle.std.specs.Prelude.{◌≡◌, ℕ, ⊤, List, [], ◌∷◌, ◌++◌, Option, Some, None, codes}
+use Rattle.std.specs.Prelude.{◌≡◌, ℕ, List, [], ◌∷◌, ◌++◌, Option, Some, None, codes}
 use Rattle.std.specs.List.{AllZip, flat_map}
 use Rattle.std.specs.List.Sorted.{IsStrictlyIncreasing}
 use Rattle.ct_words.specs.declared.entry.Entry.{Entry}
@@ -52,12 +52,16 @@ abbrev pub IsTrueListing : Option Entry → List ℕ → Type 0
 IsTrueListing None text = text ≡ no_entry
 IsTrueListing (Some e) text = IsTrueList e text
 
--- the text is a true answer to the command: to `show`, to `table` or to `list`. Of the answers to other commands nothing is said here
+-- the text is whole lines, one at least: it ends with a line feed
+abbrev pub AreWholeLines : List ℕ → Type 0
+AreWholeLines text = (front : List ℕ) × (text ≡ ended front)
+
+-- the text is a true answer to the command: to `show`, to `table` or to `list`. Of the answers to other commands only that they are whole lines is said here
 abbrev pub IsTrueAnswer : Command → List ℕ → Type 0
 IsTrueAnswer (command.Show numbers) text = IsTrueShow (named_entry numbers) text
 IsTrueAnswer (command.Table numbers) text = IsTrueTable (column numbers.d numbers.w) text
 IsTrueAnswer (command.List numbers) text = IsTrueListing (named_entry numbers) text
-IsTrueAnswer other text = ⊤
+IsTrueAnswer other text = AreWholeLines text
 
 -- the output is answers to the commands of the input, one to each, in order; each is as the relation says
 pub record AreAnswers (IsRight : Command → List ℕ → Type 0) (input output : List ℕ) : Type 0 where
