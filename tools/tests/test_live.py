@@ -23,6 +23,11 @@ LATE = "import sys\nlast = 'show 5 3'\nfor line in sys.stdin:\n    print('A({}) 
 SLOW = "import sys, time\nfor line in sys.stdin:\n    time.sleep(60)\n"
 
 
+def setUpModule():
+    """Tests that run in the background may have Ctrl-C ignored; here it counts."""
+    unittest.addModuleCleanup(signal.signal, signal.SIGINT, signal.signal(signal.SIGINT, signal.default_int_handler))
+
+
 class Replies(unittest.TestCase):
     def program(self, text):
         """A false program for a session."""
