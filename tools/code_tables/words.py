@@ -292,7 +292,7 @@ def submission(name: str, words: Sequence[int], n: int, *, generator: bool = Fal
     if d is None:
         d = distance(chosen, basis)
     if d is None:
-        raise Refusal("one word has no distance: state one with --distance")
+        raise Refusal("one word has no distance: state one, by --distance or in Python as d")
     if not 3 <= d <= LAST:
         raise Refusal(f"the distance is {d}, and the table has the distances 3 to {LAST}")
     if generator:
