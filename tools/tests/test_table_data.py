@@ -100,7 +100,7 @@ class Data(unittest.TestCase):
                        lambda d: d["pieces"][0].update(kind="guess"), lambda d: d["entries"][5]["upper"].update(derivation=[]), lambda d: d.update(more=1)):
             changed = json.loads(json.dumps(self.json))
             change(changed)
-            self.assertNotEqual(list(faults(changed, SCHEMA)), [])
+            self.assertIsNotNone(next(iter(faults(changed, SCHEMA)), None))
 
     def test_the_schema_ends_where_the_table_does(self):
         self.assertEqual([SCHEMA["$defs"][name]["maximum"] for name in "ndw"], [table.LAST] * 3)
