@@ -127,9 +127,12 @@ def compared(entry, bounds):
     lines = []
     for side, here, standing in zip(SIDES, bounds, table.standings(entry, bounds)):
         there = getattr(told, side)
-        remembered = "" if there in (None, here) else f" {there} is remembered as published."
-        source = f" ({told.source})" if side == "upper" and told.source and standing.startswith("published only") else ""
-        lines.append(f"{SIGN[side]} {here}: {standing}{source}.{remembered}")
+        if standing.startswith("published only"):
+            source = f" ({told.source})" if side == "upper" and told.source else ""
+            lines.append(f"{SIGN[side]} {here} is proved here. {standing.capitalize()}{source}: {SIGN[side]} {there}, as remembered.")
+        else:
+            remembered = "" if there in (None, here) else f" {there} is remembered as published."
+            lines.append(f"{SIGN[side]} {here}: {standing}.{remembered}")
     return lines + ([f"Before it: {told.note}."] if told.note else [])
 
 

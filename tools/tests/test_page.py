@@ -188,8 +188,8 @@ class Page(unittest.TestCase):
         self.assertEqual(page.cite_line(f"{work}, ch. 1"), f'<a href="#w-golay-1949">{work}</a>, ch. 1')
 
     def test_what_is_known_stands_beside(self):
-        for name, words in [("17-4", "≥ 1: published only. 2816 is remembered as published.<br>≤ 131072: published only, the technique is not remembered. 3276 is remembered as published."),
-                            ("16-3", "2816 is remembered"), ("12-4-5", "≥ 1: published only. 80 is remembered as published."), ("20-4-7", "Published values: not known here."),
+        for name, words in [("17-4", "≥ 1 is proved here. Published only: ≥ 2816, as remembered.<br>≤ 131072 is proved here. Published only, the technique is not remembered: ≤ 3276, as remembered."),
+                            ("16-3", "≥ 2816, as remembered"), ("12-4-5", "≥ 1 is proved here. Published only: ≥ 80, as remembered."), ("20-4-7", "Published values: not known here."),
                             ("20-8", 'by semidefinite programming with quadruples of words (<a href="#w-gijswijt-mittelmann-schrijver-2012">')]:
             self.assertIn(words, self.article(f"b{name}"))
         self.assertIn("remembered, and none of them could be looked up", self.first)

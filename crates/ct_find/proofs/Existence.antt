@@ -41,9 +41,9 @@ use Rattle.ct_text.specs.Line.{words_of}
 use Rattle.ct_text.specs.EntryNumbers.{entry_numbers_of, named_entry}
 use Rattle.ct_text.specs.declared.entry_numbers.EntryNumbers.{EntryNumbers}
 use Rattle.ct_find.specs.declared.found.TheConstants.{MAX_PIVOTS}
-use Rattle.ct_find.specs.Proposal.{is_even, run_for, dual_at, found_dual, stop_for, dual_evidence, comments, find_id, IsProposal, AnswersEntry}
+use Rattle.ct_find.specs.Proposal.{is_even, run_for, dual_at_end, found_dual, stop_for, dual_evidence, comments, find_id, IsProposal, AnswersEntry}
 use Rattle.ct_commands.specs.Submission.{submission_text}
-use Rattle.ct_find.specs.Reply.{IsReplyToEntry, IsReplyToNumbers, IsReplyToWords, AreReplies, IsFound}
+use Rattle.ct_find.specs.Reply.{IsReplyToEntry, IsReplyToNumbers, IsReplyToWords, AreFoundReplies, IsFound}
 use Rattle.ct_find.proofs.EntryLemmas.{named-is_entry}
 use Rattle.ct_find.proofs.FoundLemmas.{plain-asked}
 use Rattle.ct_find.proofs.PlainTables.{numbers, number, mark, word, ArePlain, small, plain_text}
@@ -177,7 +177,7 @@ answer_of e d shown (document, reads) = (comments (bound_of_dual d) (stop_for e)
 
 plain_answer : (n d : ℕ) → IsEntry (unrestricted n d) → (end : End) → run_for (unrestricted n d) ≡ end
     → IsShown (stop_for (unrestricted n d)) (dual_of (unrestricted n d) (is_even None d) end)
-    → (text : List ℕ) × AnswersEntry (unrestricted n d) (dual_at None (unrestricted n d) end) text
+    → (text : List ℕ) × AnswersEntry (unrestricted n d) (dual_at_end None (unrestricted n d) end) text
 unfolding run_for
 plain_answer n d entry (LeastEnd t) is shown =
     let e = unrestricted n d in
@@ -194,7 +194,7 @@ plain_answer n d entry (WideEnd x) is shown =
 
 weighted_answer : (n d w : ℕ) → IsEntry (constant_weight n d w) → (end : End) → run_for (constant_weight n d w) ≡ end
     → ((t : Tableau) → end ≡ LeastEnd t → IsShown (stop_for (constant_weight n d w)) (run_dual (constant_weight n d w) false t.cost))
-    → (text : List ℕ) × AnswersEntry (constant_weight n d w) (dual_at (Some w) (constant_weight n d w) end) text
+    → (text : List ℕ) × AnswersEntry (constant_weight n d w) (dual_at_end (Some w) (constant_weight n d w) end) text
 unfolding run_for
 weighted_answer n d w entry (LeastEnd t) is shown =
     let e = constant_weight n d w in
@@ -220,7 +220,7 @@ words_reply_exists : (words : List (List ℕ)) → (text : List ℕ) × (refused
 words_reply_exists [] = ([], false, (refl, refl))
 words_reply_exists (w ∷ words) = numbers_reply_exists (entry_numbers_of (w ∷ words))
 
-replies_exist : (lines : List (List ℕ)) → (text : List ℕ) × (refused : Bool) × AreReplies lines text refused
+replies_exist : (lines : List (List ℕ)) → (text : List ℕ) × (refused : Bool) × AreFoundReplies lines text refused
 replies_exist [] = ([], false, (refl, refl))
 replies_exist (line ∷ lines) =
     let (reply, here, is) = words_reply_exists (words_of line) in

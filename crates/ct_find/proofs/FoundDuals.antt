@@ -21,7 +21,7 @@ use Rattle.ct_finder.specs.Ending.{ending_of, multipliers_from, stop_from}
 use Rattle.ct_finder.specs.Found.{bound_of_dual, dual_of, end_of_run, least_dual, IsShown}
 use Rattle.ct_finder.proofs.FoundLemmas.{ending_at, plain-found, weighted-found, asked-weighted, shown-at}
 use Rattle.ct_find.specs.declared.found.TheConstants.{MAX_PIVOTS}
-use Rattle.ct_find.specs.Proposal.{is_even, run_for, stop_for, dual_at, found_dual}
+use Rattle.ct_find.specs.Proposal.{is_even, run_for, stop_for, dual_at_end, found_dual}
 use Rattle.ct_find.proofs.FoundLemmas.{plain-asked, weighted-run}
 
 -- the dual is of the entry, accepted, of even distances alone where this is asked, and allows nothing
@@ -126,7 +126,7 @@ bound-true e d entry same =
 
 -- without weight one is found
 pub plain-some : (e : Entry) → e.w ≡ None → IsSome (found_dual e)
-plain-some e none = subst (λ (w : Option ℕ). IsSome (dual_at w e (run_for e))) (sym none) refl
+plain-some e none = subst (λ (w : Option ℕ). IsSome (dual_at_end w e (run_for e))) (sym none) refl
 
 -- the dual of an end is shown as the run stopped
 pub plain_shown : (n d : ℕ) → IsEntry (unrestricted n d) → IsShown (stop_for (unrestricted n d)) (dual_of (unrestricted n d) (is_even None d) (run_for (unrestricted n d)))

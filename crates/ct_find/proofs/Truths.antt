@@ -13,7 +13,7 @@ use Rattle.ct_duals.specs.declared.dual.Dual.{Dual}
 use Rattle.ct_finder.specs.Found.{bound_of_dual}
 use Rattle.ct_finder.proofs.FoundLemmas.{stop-least}
 use Rattle.ct_find.specs.Proposal.{AnswersEntry, found_dual, stop_for}
-use Rattle.ct_find.specs.Reply.{IsReplyToEntry, IsReplyToNumbers, IsReplyToWords, AreReplies, IsFound}
+use Rattle.ct_find.specs.Reply.{IsReplyToEntry, IsReplyToNumbers, IsReplyToWords, AreFoundReplies, IsFound}
 use Rattle.ct_find.specs.Truth.{IsTrueProposal, IsTrueReply, AreTrueReplies}
 use Rattle.ct_find.proofs.FoundDuals.{found, bound-true}
 
@@ -52,7 +52,7 @@ true_to_words : (words : List (List ℕ)) (text : List ℕ) (refused : Bool) →
 true_to_words [] text refused answers = tt
 true_to_words (word ∷ words) text refused answers = true_to_numbers (entry_numbers_of (word ∷ words)) text refused answers
 
-true_replies : (lines : List (List ℕ)) (text : List ℕ) (refused : Bool) → AreReplies lines text refused
+true_replies : (lines : List (List ℕ)) (text : List ℕ) (refused : Bool) → AreFoundReplies lines text refused
     → (replies : List (List ℕ)) × AllZip IsTrueReply lines replies × (text ≡ flat_map (λ reply. reply) replies)
 true_replies [] text refused h = ([], tt, h.0)
 true_replies (line ∷ lines) text refused (reply, rest, here, later, answers, others, is, mark) =

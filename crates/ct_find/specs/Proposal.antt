@@ -29,13 +29,13 @@ abbrev pub stop_for : Entry → Stop
 stop_for e = stop_of e (is_even e.w e.d) MAX_PIVOTS (run_for e)
 
 -- the dual of an end: with a weight that of the run alone, where it ends as least
-abbrev pub dual_at : Option ℕ → Entry → End → Option Dual
-dual_at None e end = Some (dual_of e (is_even None e.d) end)
-dual_at (Some w) e end = least_dual e end
+abbrev pub dual_at_end : Option ℕ → Entry → End → Option Dual
+dual_at_end None e end = Some (dual_of e (is_even None e.d) end)
+dual_at_end (Some w) e end = least_dual e end
 
 -- the dual that is proposed for an entry, if one is
 abbrev pub found_dual : Entry → Option Dual
-found_dual e = dual_at e.w e (run_for e)
+found_dual e = dual_at_end e.w e (run_for e)
 
 -- a dual as evidence, by the weight of its entry
 abbrev pub dual_evidence : Option ℕ → Dual → Evidence

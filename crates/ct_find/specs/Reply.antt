@@ -28,18 +28,18 @@ IsReplyToWords [] text refused = (text ≡ []) × (refused ≡ false)
 IsReplyToWords (word ∷ words) text refused = IsReplyToNumbers (entry_numbers_of (word ∷ words)) text refused
 
 -- the reply to a line
-abbrev pub IsReply : List ℕ → List ℕ → Bool → Type 0
-IsReply line text refused = IsReplyToWords (words_of line) text refused
+abbrev pub IsFoundReply : List ℕ → List ℕ → Bool → Type 0
+IsFoundReply line text refused = IsReplyToWords (words_of line) text refused
 
 -- the replies to lines, in order, and whether one of them is a refusal
-abbrev pub AreReplies : List (List ℕ) → List ℕ → Bool → Type 0
-AreReplies [] text refused = (text ≡ []) × (refused ≡ false)
-AreReplies (line ∷ lines) text refused =
-    (reply rest : List ℕ) × (here later : Bool) × IsReply line reply here × AreReplies lines rest later × (text ≡ reply ++ rest) × (refused ≡ (here || later))
+abbrev pub AreFoundReplies : List (List ℕ) → List ℕ → Bool → Type 0
+AreFoundReplies [] text refused = (text ≡ []) × (refused ≡ false)
+AreFoundReplies (line ∷ lines) text refused =
+    (reply rest : List ℕ) × (here later : Bool) × IsFoundReply line reply here × AreFoundReplies lines rest later × (text ≡ reply ++ rest) × (refused ≡ (here || later))
 
 -- the output of the mode on an input: the replies to its lines
 abbrev pub IsFound : List ℕ → List ℕ → Bool → Type 0
-IsFound input output refused = AreReplies (lines_of input) output refused
+IsFound input output refused = AreFoundReplies (lines_of input) output refused
 
 -- two replies to one line: equal, or the same but for the bytes of a document that is submitted, which reads alike
 abbrev pub DifferInDocument : List ℕ → List ℕ → Type 0

@@ -3,7 +3,7 @@
 ghost use Rattle.std.specs.Prelude.{◌≡◌, ◌++◌, ◌||◌, false, true, map, IfOk, OnOk, IfSome};
 ghost use Rattle.ct_words.specs.Entry.{IsEntry};
 ghost use Rattle.ct_io.specs.Lines.{lines_of};
-ghost use Rattle.ct_find.specs.Reply.{AreReplies, IsReply, IsReplyToEntry, IsReplyToNumbers, IsReplyToWords};
+ghost use Rattle.ct_find.specs.Reply.{AreFoundReplies, IsFoundReply, IsReplyToEntry, IsReplyToNumbers, IsReplyToWords};
 
 use crate::proposal::{answer_entry, owned};
 use ct_io::next_line;
@@ -75,7 +75,7 @@ fn reply_to_words(alloc: Global, words: &[&[u8]]) -> Result<Replies, AllocError>
 
 /// The reply to a line.
 fn reply_to(alloc: Global, line: &[u8]) -> Result<Replies, AllocError>
-    ensures { IfOk result (λ reply. IsReply line.now reply.text.items reply.refused) }
+    ensures { IfOk result (λ reply. IsFoundReply line.now reply.text.items reply.refused) }
 {
     let words = first_words(alloc, line, MOST_WORDS)?;
     reply_to_words(alloc, &words)
@@ -93,7 +93,7 @@ fn put(replies: &mut Replies, reply: &Replies) -> Result<(), AllocError>
 
 /// The replies to the lines of an input, in order. `Err` is want of memory.
 pub(crate) fn replies_to(alloc: Global, input: &[u8]) -> Result<Replies, AllocError>
-    ensures { IfOk result (λ replies. AreReplies (lines_of input.now) replies.text.items replies.refused) }
+    ensures { IfOk result (λ replies. AreFoundReplies (lines_of input.now) replies.text.items replies.refused) }
 {
     let mut replies = Replies {
         text: Vec::new(alloc),

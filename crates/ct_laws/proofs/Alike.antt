@@ -7,7 +7,7 @@ use Rattle.ct_text.specs.EntryNumbers.{entry_numbers_of, named_entry}
 use Rattle.ct_text.specs.declared.entry_numbers.EntryNumbers.{EntryNumbers}
 use Rattle.ct_finder.specs.Found.{bound_of_dual}
 use Rattle.ct_find.specs.Proposal.{AnswersEntry, comments, find_id, found_dual, stop_for}
-use Rattle.ct_find.specs.Reply.{IsReplyToEntry, IsReplyToNumbers, IsReplyToWords, AreReplies, DifferInDocument, DifferInDocuments}
+use Rattle.ct_find.specs.Reply.{IsReplyToEntry, IsReplyToNumbers, IsReplyToWords, AreFoundReplies, DifferInDocument, DifferInDocuments}
 
 -- two answers for an entry
 alike_answers : (e : Entry) (found : Option Dual) (text other : List ℕ) → AnswersEntry e found text → AnswersEntry e found other → DifferInDocument text other
@@ -28,7 +28,7 @@ alike_of_words [] text other a b h k = (inl (h.0 ∙ sym k.0), h.1 ∙ sym k.1)
 alike_of_words (word ∷ words) text other a b h k = alike_of_numbers (entry_numbers_of (word ∷ words)) text other a b h k
 
 -- the replies to lines
-pub alike_replies : (lines : List (List ℕ)) (text other : List ℕ) (a b : Bool) → AreReplies lines text a → AreReplies lines other b → DifferInDocuments lines text other × (a ≡ b)
+pub alike_replies : (lines : List (List ℕ)) (text other : List ℕ) (a b : Bool) → AreFoundReplies lines text a → AreFoundReplies lines other b → DifferInDocuments lines text other × (a ≡ b)
 alike_replies [] text other a b h k = ((h.0, k.0), h.1 ∙ sym k.1)
 alike_replies (line ∷ lines) text other a b (reply, rest, here, later, is, are, all, mark) (another, more, there, last, is', are', all', mark') =
     let first = alike_of_words (words_of line) reply another here there is is' in

@@ -26,9 +26,9 @@ use Rattle.ct_derive.specs.Text.{evidence_text}
 use Rattle.ct_verify.specs.Heading.{lines_extent, heading_with, heading_of}
 use Rattle.ct_verify.specs.Read.{ReadingValue}
 use Rattle.ct_verify.specs.Reading.{after_block, read_heading, read_body, read_next}
-use Rattle.ct_verify.specs.Verdict.{going_on, verdict_from}
+use Rattle.ct_verify.specs.Verdict.{verdict_after, verdict_from}
 use Rattle.ct_verify.specs.declared.part.Part.TheVariants as part
-use Rattle.ct_verify.specs.Step.{Step, On}
+use Rattle.ct_verify.specs.Step.{AfterLine, On}
 use Rattle.ct_commands.proofs.SpacedWords.{AreWords, spaced_words, known_word, decimal_word, id_is_word, IsLine-words, words_again}
 use Rattle.ct_laws.proofs.LineSteps.{IsVerified, in_body, next_verified}
 
@@ -128,7 +128,7 @@ piece_verified pieces p rest named short made later =
     ap (submitted pieces p.id) (join_with_byte-slice_split LINE_FEED p.document) ∙ made in
     subst (IsVerified (in_body pieces [])) (sym text)
     (λ k.
-    ap (λ (s : Step). going_on s (λ n. verdict_from n (k + 1) (document ++ lines_of rest))) (heading_step pieces p.id count k named some small)
+    ap (λ (s : AfterLine). verdict_after s (λ n. verdict_from n (k + 1) (document ++ lines_of rest))) (heading_step pieces p.id count k named some small)
     ∙ subst (λ n. IsVerified (in_block pieces k p.id n []) (document ++ lines_of rest)) (length-slice_split is_feed p.document)
     (whole_block pieces k p.id document (lines_of rest) p (IsFilled-slice_split p.document) joined_again later) (k + 1))
 

@@ -19,8 +19,8 @@ use Rattle.ct_verify.specs.Heading.{heading_of}
 use Rattle.ct_verify.specs.StatedRule.{resolved}
 use Rattle.ct_verify.specs.StatedLine.{StatedLineValue, line_of}
 use Rattle.ct_verify.specs.Read.{ReadingValue, unread, in_part}
-use Rattle.ct_verify.specs.Reading.{unless_fault, by_rule, read_line, read_heading, is_only, read_body, after_block, read_block, read_in, read_next}
-use Rattle.ct_verify.specs.Verdict.{ended, going_on, verdict_from, verdict_of, AreRead}
+use Rattle.ct_verify.specs.Reading.{unless_wrong, by_rule, read_line, read_heading, is_only, read_body, after_block, read_block, read_in, read_next}
+use Rattle.ct_verify.specs.Verdict.{verdict_at_end, verdict_after, verdict_from, verdict_of, AreRead}
 use Rattle.ct_verify.specs.declared.heading.Heading.{Heading}
 use Rattle.ct_verify.specs.declared.verdict.Why.{Why}
 use Rattle.ct_verify.specs.declared.verdict.Why.TheVariants as why
@@ -29,7 +29,7 @@ use Rattle.ct_verify.specs.declared.verdict.Verdict.TheVariants.{No}
 use Rattle.ct_verify.specs.declared.part.Block.{Block}
 use Rattle.ct_verify.specs.declared.part.Part.{Part}
 use Rattle.ct_verify.specs.declared.part.Part.TheVariants as part
-use Rattle.ct_verify.specs.Step.{Step, On, Failed}
+use Rattle.ct_verify.specs.Step.{AfterLine, On, Failed}
 use Rattle.ct_laws.specs.FirstFailure.{IsUnfinished, IsRefusedWith, BlockFails, BlockFailsLater, LineFails, FailsFirst, IsFirstFailure}
 
 -- the text line that a failure of this one names, by the part that it stands at: that on which the block of evidence began, or itself
@@ -43,11 +43,11 @@ IsBegunOn l (part.Evidence b) = b.line ≡ l
 IsBegunOn l p = Unit {0}
 
 -- a step names this text line, where it fails or is in a block of evidence
-abbrev Names : ℕ → Step → Type 0
+abbrev Names : ℕ → AfterLine → Type 0
 Names l (On next) = IsBegunOn l next.part
 Names l (Failed m w) = m ≡ l
 
-unless_fault-names : (r : ReadingValue) (k : ℕ) (line : LineValue) (fault : Option LineFault) → Names k (unless_fault r k line fault)
+unless_fault-names : (r : ReadingValue) (k : ℕ) (line : LineValue) (fault : Option LineFault) → Names k (unless_wrong r k line fault)
 unless_fault-names r k line None = tt
 unless_fault-names r k line (Some fault) = refl
 
@@ -153,7 +153,7 @@ in_block : (r : ReadingValue) (b : Block) (k l : ℕ) (texts : List (List ℕ)) 
 in_block r b k l texts w at begun h =
     (b, at, begun, record { inside = []; left = texts; reading = r; block = b; lines = refl; read = refl; within = at; begun = begun; failing = h })
 
-fails-end : (r : ReadingValue) (p : Part) (k l : ℕ) (w : Why) → r.part ≡ p → ended p k ≡ No l w → Fails r k [] l w
+fails-end : (r : ReadingValue) (p : Part) (k l : ℕ) (w : Why) → r.part ≡ p → verdict_at_end p k ≡ No l w → Fails r k [] l w
 fails-end r part.Start k l w at h =
     let same : k ≡ l = cc in
     let form : w ≡ why.Form = cc in
@@ -233,7 +233,7 @@ fails-on r next k l text texts w is names (inl h) =
 fails_from_no : (texts : List (List ℕ)) (r : ReadingValue) (k l : ℕ) (w : Why) → verdict_from r k texts ≡ No l w → Fails r k texts l w
 fails_from_no [] r k l w h = fails-end r r.part k l w refl h
 fails_from_no (text ∷ texts) r k l w h = go (read_next r k text) refl (read_next-names r k text) h (λ next. fails_from_no texts next (k + 1) l w) where
-  go : (step : Step) → read_next r k text ≡ step → Names (named_at r.part k) step → going_on step (later k texts) ≡ No l w
+  go : (step : AfterLine) → read_next r k text ≡ step → Names (named_at r.part k) step → verdict_after step (later k texts) ≡ No l w
       → ((next : ReadingValue) → verdict_from next (k + 1) texts ≡ No l w → Fails next (k + 1) texts l w) → Fails r k (text ∷ texts) l w
   go (On next) is names said more = fails-on r next k l text texts w is names (more next said)
   go (Failed m v) is names said more =
@@ -254,14 +254,14 @@ after_read [] left r s k read =
     ap (λ (q : ReadingValue). verdict_from q k left) read ∙ ap (λ (n : ℕ). verdict_from s n left) same
 after_read (text ∷ before) left r s k read =
     let same : k + 1 + length before ≡ k + suc (length before) = omega arith in
-    ap (λ (step : Step). going_on step (later k (before ++ left))) read.1
+    ap (λ (step : AfterLine). verdict_after step (later k (before ++ left))) read.1
     ∙ after_read before left read.0 s (k + 1) read.2
     ∙ ap (λ (n : ℕ). verdict_from s n left) same
 
 no-block : (r : ReadingValue) (b : Block) (k l : ℕ) (left : List (List ℕ)) (w : Why) → r.part ≡ part.Evidence b → b.line ≡ l → BlockFails r b left w → verdict_from r k left ≡ No l w
-no-block r b k l [] w at begun h = ap (λ (p : Part). ended p k) at ∙ ap (λ (n : ℕ). No n why.Form) begun ∙ ap (λ (v : Why). No l v) (sym h)
+no-block r b k l [] w at begun h = ap (λ (p : Part). verdict_at_end p k) at ∙ ap (λ (n : ℕ). No n why.Form) begun ∙ ap (λ (v : Why). No l v) (sym h)
 no-block r b k l (text ∷ left) w at begun h =
-    ap (λ (step : Step). going_on step (later k left)) (failed_from_refused r b k text w at h) ∙ ap (λ (n : ℕ). No n w) begun
+    ap (λ (step : AfterLine). verdict_after step (later k left)) (failed_from_refused r b k text w at h) ∙ ap (λ (n : ℕ). No n w) begun
 
 no-block_later : (r : ReadingValue) (k l : ℕ) (texts : List (List ℕ)) (w : Why) → BlockFailsLater l r k texts w → verdict_from r k texts ≡ No l w
 no-block_later r k l texts w h =
@@ -269,7 +269,7 @@ no-block_later r k l texts w h =
     ∙ after_read h.inside h.left r h.reading k h.read
     ∙ no-block h.reading h.block (k + length h.inside) l h.left w h.within h.begun h.failing
 
-ended-unfinished : (p : Part) (l : ℕ) → IsUnfinished p → ended p l ≡ No l why.Form
+ended-unfinished : (p : Part) (l : ℕ) → IsUnfinished p → verdict_at_end p l ≡ No l why.Form
 ended-unfinished part.Start l h = refl
 ended-unfinished part.Body l h = refl
 ended-unfinished (part.Evidence b) l h = absurd h
@@ -277,8 +277,8 @@ ended-unfinished part.Done l h = absurd h
 
 no-line : (r : ReadingValue) (l : ℕ) (left : List (List ℕ)) (w : Why) → LineFails r l left w → verdict_from r l left ≡ No l w
 no-line r l [] w h = ended-unfinished r.part l h.0 ∙ ap (λ (v : Why). No l v) (sym h.1)
-no-line r l (text ∷ left) w (inl is) = ap (λ (step : Step). going_on step (later l left)) is
-no-line r l (text ∷ left) w (inr h) = ap (λ (step : Step). going_on step (later l left)) h.1 ∙ no-block_later h.0 (l + 1) l left w h.2
+no-line r l (text ∷ left) w (inl is) = ap (λ (step : AfterLine). verdict_after step (later l left)) is
+no-line r l (text ∷ left) w (inr h) = ap (λ (step : AfterLine). verdict_after step (later l left)) h.1 ∙ no-block_later h.0 (l + 1) l left w h.2
 
 pub no_from_first : (document : List ℕ) (l : ℕ) (w : Why) → IsFirstFailure document l w → verdict_of document ≡ No l w
 no_from_first document l w h =

@@ -19,12 +19,12 @@ use Rattle.ct_derive.specs.Check.{line_by, numbers_at}
 use Rattle.ct_derive.specs.Text.{lines_text}
 use Rattle.ct_derive.proofs.CheckedLines.{no_fault, places_again}
 use Rattle.ct_verify.specs.Read.{ReadingValue}
-use Rattle.ct_verify.specs.Reading.{with_line, unless_fault, by_rule, read_line, read_body, read_next}
+use Rattle.ct_verify.specs.Reading.{and_line, unless_wrong, by_rule, read_line, read_body, read_next}
 use Rattle.ct_verify.specs.StatedLine.{StatedLineValue}
 use Rattle.ct_verify.specs.StatedRule.{at_place, resolved}
-use Rattle.ct_verify.specs.Verdict.{going_on, verdict_from}
+use Rattle.ct_verify.specs.Verdict.{verdict_after, verdict_from}
 use Rattle.ct_verify.specs.declared.part.Part.TheVariants as part
-use Rattle.ct_verify.specs.Step.{Step, On, Failed}
+use Rattle.ct_verify.specs.Step.{AfterLine, On, Failed}
 use Rattle.ct_verify.specs.declared.verdict.Why.TheVariants as why
 use Rattle.ct_verify.specs.declared.verdict.Verdict.TheVariants.{Yes}
 use Rattle.ct_commands.proofs.SpacedWords.{spaced_words, known_word, IsLine-words, words_again}
@@ -43,7 +43,7 @@ in_body pieces lines = record { pieces = pieces; lines = lines; part = part.Body
 pub next_verified : (r next : ReadingValue) (text : List ℕ) (texts : List (List ℕ)) → ((k : ℕ) → read_next r k text ≡ On next) → IsVerified next texts
     → IsVerified r (text ∷ texts)
 next_verified r next text texts step rest k =
-    ap (λ (s : Step). going_on s (λ n. verdict_from n (k + 1) texts)) (step k) ∙ rest (k + 1)
+    ap (λ (s : AfterLine). verdict_after s (λ n. verdict_from n (k + 1) texts)) (step k) ∙ rest (k + 1)
 
 -- the pieces with these ids have these new places
 abbrev pub HasNewPlace : List (List ℕ) → List PieceValue → List ℕ → Rule → Type 0
@@ -90,8 +90,8 @@ line_stated ids printed places before l k h =
     let number : length before + 1 ≡ length lines + 1 = omega (arith, long) in
     ap (λ (b : Bool). cond b (by_rule r k s (resolved printed s.rule.rule s.rule.id)) (Failed k why.Form)) (is_next (length before + 1) (length lines) number)
     ∙ ap (by_rule r k s) (resolved_again ids printed places l.rule h.place)
-    ∙ ap (unless_fault r k (line_by l.claim rule (numbers_at l.from))) (no_fault (supports_of printed) lines (moved_line places l) h.follows)
-    ∙ ap (λ (m : LineValue). On (with_line r m)) (line_kept places l)
+    ∙ ap (unless_wrong r k (line_by l.claim rule (numbers_at l.from))) (no_fault (supports_of printed) lines (moved_line places l) h.follows)
+    ∙ ap (λ (m : LineValue). On (and_line r m)) (line_kept places l)
     ∙ ap (λ (ls : List LineValue). On (in_body printed ls)) (sym (map-append (moved_line places) before (l ∷ [])))
 
 line_step : (ids : List (List ℕ)) (printed : List PieceValue) (places : List ℕ) (before : List LineValue) (l : LineValue) → IsReady ids printed places before l

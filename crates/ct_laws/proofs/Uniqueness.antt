@@ -9,7 +9,7 @@ use Rattle.ct_commands.specs.declared.command.Command.{Command}
 use Rattle.ct_commands.specs.declared.command.Command.TheVariants as command
 use Rattle.ct_piece.specs.Piece.{PieceValue}
 use Rattle.ct_words.specs.TableEntries.{column}
-use Rattle.ct_session.specs.Reply.{IsReply, IsShown, IsShowReply, IsTableReply, IsExplainReply, IsListReply, leaves_choice, pieces_after}
+use Rattle.ct_session.specs.Reply.{IsReply, IsShownEntry, IsShowReply, IsTableReply, IsExplainReply, IsListReply, leaves_choice, pieces_after}
 use Rattle.ct_replies.specs.Refusals.{is_refusal}
 use Rattle.ct_session.specs.Run.{AreReplies, AnswersCommands, DifferInChoices}
 use Rattle.ct_replies.specs.Text.{reply_text}
@@ -21,7 +21,7 @@ or_parts : (a b : Bool) → (a || b) ≡ false → (a ≡ false) × (b ≡ false
 or_parts true b h = absurd cc
 or_parts false b h = (refl, h)
 
-one_shown : (pieces : List PieceValue) (e : Entry) (r s : Reply) → IsShown pieces e r → IsShown pieces e s → r ≡ s
+one_shown : (pieces : List PieceValue) (e : Entry) (r s : Reply) → IsShownEntry pieces e r → IsShownEntry pieces e s → r ≡ s
 one_shown pieces e r s h k = h.shown ∙ ap Shown (same_bounds pieces e h.bounds k.bounds h.of_entry k.of_entry) ∙ sym k.shown
 
 one_table_reply : (pieces : List PieceValue) (es : List Entry) (r s : Reply) → IsTableReply pieces es r → IsTableReply pieces es s → r ≡ s

@@ -24,7 +24,7 @@ use Rattle.ct_piece.proofs.MakingLemmas.{making}
 use Rattle.ct_piece.proofs.LeavingLemmas.{other_than, ArePassed-others, codes-passing}
 use Rattle.ct_piece.proofs.SupportLemmas.{supports-push}
 use Rattle.ct_piece.proofs.StandingLemmas.{unless_full-ok, stored_beside-ok}
-use Rattle.ct_sample.specs.Command.{step_id, first_unused, command_of}
+use Rattle.ct_sample.specs.Command.{step_id, first_unused, command_drawn}
 use Rattle.ct_sample.specs.Drawn.{drawn_evidence}
 use Rattle.ct_sample.specs.Inside.Sound.{IsSoundCommand}
 use Rattle.ct_sample.specs.Random.{drawn}
@@ -124,7 +124,7 @@ withdraw-sound : (id : Option (List ℕ)) → IfSome (option_map Withdraw id) Is
 withdraw-sound None = tt
 withdraw-sound (Some id) = tt
 
-pub command-sound : (step h : ℕ) (pieces : List PieceValue) → AreEntries pieces → IfSome (command_of step h pieces) IsSoundCommand
+pub command-sound : (step h : ℕ) (pieces : List PieceValue) → AreEntries pieces → IfSome (command_drawn step h pieces) IsSoundCommand
 command-sound step h pieces entries = at (step % 3 == 0) where
   at : (b : Bool) → IfSome (cond b (option_map Withdraw (first_unused pieces)) (Some (Submit (step_id step) (drawn_evidence h pieces)))) IsSoundCommand
   at true = withdraw-sound (first_unused pieces)
@@ -135,7 +135,7 @@ unfolding run_to
 running number zero = running-none
 running number (suc step) =
     let before = running number step in
-    running-after (run_to number step) (command_of (suc step) (drawn number (suc step)) (run_to number step).pieces) before
+    running-after (run_to number step) (command_drawn (suc step) (drawn number (suc step)) (run_to number step).pieces) before
     (command-sound (suc step) (drawn number (suc step)) (run_to number step).pieces before.entries)
 
 counted : (b : Bool) → cond {A = ℕ} b 1 0 ≤ 1
@@ -153,5 +153,5 @@ unfolding run_to
 counts-le number zero = omega arith
 counts-le number (suc step) =
     let before = counts-le number step in
-    let after = counts-after (run_to number step) (command_of (suc step) (drawn number (suc step)) (run_to number step).pieces) in
+    let after = counts-after (run_to number step) (command_drawn (suc step) (drawn number (suc step)) (run_to number step).pieces) in
     omega (arith, before, after)

@@ -24,7 +24,7 @@ use Rattle.ct_kind.specs.declared.fault.SubmitFault.TheVariants as fault
 use Rattle.ct_piece.specs.declared.fault.WithdrawFault.{WithdrawFault}
 use Rattle.ct_piece.specs.declared.fault.WithdrawFault.TheVariants as withdraw
 use Rattle.ct_sample.specs.Drawn.{may_lengthen, lengthening, last_lengthening, drawn_dual, drawn_words, drawn_cosets, drawn_evidence}
-use Rattle.ct_sample.specs.Command.{step_id, is_used, command_of}
+use Rattle.ct_sample.specs.Command.{step_id, is_used, command_drawn}
 use Rattle.ct_sample.specs.declared.command.Command.TheVariants.{Submit, Withdraw}
 use Rattle.ct_sample.specs.Run.{without_document, without_documents, made_without_document}
 
@@ -159,6 +159,6 @@ drawn-without_documents h ps =
     (last-without_documents ps)
 
 -- the command of a step over pieces rests on no document
-pub command_of-without_documents : (step h : ℕ) (ps : List PieceValue) → command_of step h (without_documents ps) ≡ command_of step h ps
+pub command_of-without_documents : (step h : ℕ) (ps : List PieceValue) → command_drawn step h (without_documents ps) ≡ command_drawn step h ps
 command_of-without_documents step h ps =
     ap₂ (λ (id : Option (List ℕ)) (evidence : Evidence). if step % 3 == 0 then option_map Withdraw id else Some (Submit (step_id step) evidence)) (found-without_documents ps ps) (drawn-without_documents h ps)

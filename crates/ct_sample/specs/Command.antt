@@ -22,5 +22,5 @@ first_unused pieces = option_map (λ p. p.id) (find (λ p. not (is_used pieces p
 
 -- the command of a step, which draws h, over the pieces that stand: each third step withdraws the first piece that none names, where there is one; the
 -- others submit
-abbrev pub command_of : ℕ → ℕ → List PieceValue → Option Command
-command_of step h pieces = if step % 3 == 0 then option_map Withdraw (first_unused pieces) else Some (Submit (step_id step) (drawn_evidence h pieces))
+abbrev pub command_drawn : ℕ → ℕ → List PieceValue → Option Command
+command_drawn step h pieces = if step % 3 == 0 then option_map Withdraw (first_unused pieces) else Some (Submit (step_id step) (drawn_evidence h pieces))

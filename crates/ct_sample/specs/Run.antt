@@ -10,7 +10,7 @@ use Rattle.ct_piece.specs.Withdrawal.{withdrawn, left_by}
 use Rattle.ct_kind.specs.declared.fault.SubmitFault.{SubmitFault}
 use Rattle.ct_piece.specs.declared.fault.WithdrawFault.{WithdrawFault}
 use Rattle.ct_sample.specs.Random.{drawn}
-use Rattle.ct_sample.specs.Command.{command_of}
+use Rattle.ct_sample.specs.Command.{command_drawn}
 use Rattle.ct_sample.specs.declared.command.Command.{Command}
 use Rattle.ct_sample.specs.declared.command.Command.TheVariants.{Submit, Withdraw}
 
@@ -57,4 +57,4 @@ after_command run (Some (Withdraw id)) = after_withdrawal run (withdrawn run.pie
 -- after so many steps of the sample of a number of commands
 unfoldable pub run_to : ℕ → ℕ → RunValue
 run_to number zero = no_commands
-run_to number (suc step) = after_command (run_to number step) (command_of (suc step) (drawn number (suc step)) (run_to number step).pieces)
+run_to number (suc step) = after_command (run_to number step) (command_drawn (suc step) (drawn number (suc step)) (run_to number step).pieces)

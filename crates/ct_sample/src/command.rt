@@ -1,7 +1,7 @@
 //! The commands of the sample.
 
 ghost use Rattle.std.specs.Prelude.{◌≡◌, not, IfOk};
-ghost use Rattle.ct_sample.specs.Command.{step_id, is_used, first_unused, command_of};
+ghost use Rattle.ct_sample.specs.Command.{step_id, is_used, first_unused, command_drawn};
 
 use crate::drawing::drawn_evidence;
 use ct_kind::Evidence;
@@ -56,7 +56,7 @@ pub(crate) fn command_of(
     h: u32,
     pieces: &[Piece],
 ) -> Result<Option<Command>, AllocError>
-    ensures { IfOk result (λ command. command ≡ command_of step h pieces.now) }
+    ensures { IfOk result (λ command. command ≡ command_drawn step h pieces.now) }
 {
     if step % 3 == 0 {
         return Ok(match first_unused(pieces) {

@@ -56,7 +56,7 @@ pub record AreBoundsOf (pieces : List PieceValue) (e : Entry) (bounds : Bounds) 
   pub upper : IsShownBound pieces Upper e bounds.upper
 
 -- the bounds of an entry are shown
-pub record IsShown (pieces : List PieceValue) (e : Entry) (reply : Reply) : Type 0 where
+pub record IsShownEntry (pieces : List PieceValue) (e : Entry) (reply : Reply) : Type 0 where
   pub bounds : Bounds
   pub of_entry : AreBoundsOf pieces e bounds
   pub shown : reply ≡ Shown bounds
@@ -64,7 +64,7 @@ pub record IsShown (pieces : List PieceValue) (e : Entry) (reply : Reply) : Type
 -- the reply to `show`: the bounds of the entry that it names, or a refusal where it names none of the table
 abbrev pub IsShowReply : List PieceValue → Option Entry → Reply → Type 0
 IsShowReply pieces None reply = reply ≡ Refused refusal.NoEntry
-IsShowReply pieces (Some e) reply = IsShown pieces e reply
+IsShowReply pieces (Some e) reply = IsShownEntry pieces e reply
 
 -- the bounds of all entries of a column are shown, one after the other
 pub record IsColumn (pieces : List PieceValue) (entries : List Entry) (reply : Reply) : Type 0 where

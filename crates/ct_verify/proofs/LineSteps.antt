@@ -12,20 +12,20 @@ use Rattle.ct_verify.specs.Reading.{by_rule, read_line, read_heading, is_only, r
 use Rattle.ct_verify.specs.declared.verdict.Why.TheVariants as why
 use Rattle.ct_verify.specs.declared.part.Part.{Part}
 use Rattle.ct_verify.specs.declared.part.Part.TheVariants as part
-use Rattle.ct_verify.specs.Step.{Step, On, Failed}
+use Rattle.ct_verify.specs.Step.{AfterLine, On, Failed}
 use Rattle.ct_verify.specs.Inside.Steps.{is_end}
 use Rattle.ct_verify.proofs.FailedLines.{only_of_two}
 
 -- the document ends, or the text line fails
-abbrev at_end : ReadingValue → ℕ → Bool → Step
+abbrev at_end : ReadingValue → ℕ → Bool → AfterLine
 at_end r k ends = cond ends (On (in_part part.Done r)) (Failed k why.Form)
 
 -- a block of evidence begins, or else as above
-abbrev at_evidence : ReadingValue → ℕ → List (List ℕ) → Bool → Bool → Step
+abbrev at_evidence : ReadingValue → ℕ → List (List ℕ) → Bool → Bool → AfterLine
 at_evidence r k words ends evidence = cond evidence (read_heading r k (heading_of words)) (at_end r k ends)
 
 -- a line is stated, or else as above
-abbrev at_line : ReadingValue → ℕ → List (List ℕ) → Bool → Bool → Bool → Step
+abbrev at_line : ReadingValue → ℕ → List (List ℕ) → Bool → Bool → Bool → AfterLine
 at_line r k words ends evidence line = cond line (read_line r k (line_of words)) (at_evidence r k words ends evidence)
 
 -- where the first of the words is neither `line` nor `evidence`

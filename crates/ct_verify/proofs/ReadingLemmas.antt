@@ -33,13 +33,13 @@ use Rattle.ct_verify.specs.Heading.{lines_extent, heading_with, heading_of}
 use Rattle.ct_verify.specs.StatedRule.{resolved}
 use Rattle.ct_verify.specs.StatedLine.{StatedLineValue, line_of}
 use Rattle.ct_verify.specs.Read.{ReadingValue, unread, in_part}
-use Rattle.ct_verify.specs.Reading.{why_of, unless_fault, by_rule, read_line, read_heading, is_only, read_body, after_block, read_block, read_in, read_next}
+use Rattle.ct_verify.specs.Reading.{why_of, unless_wrong, by_rule, read_line, read_heading, is_only, read_body, after_block, read_block, read_in, read_next}
 use Rattle.ct_verify.specs.declared.heading.Heading.{Heading}
 use Rattle.ct_verify.specs.declared.verdict.Why.TheVariants as why
 use Rattle.ct_verify.specs.declared.part.Block.{Block}
 use Rattle.ct_verify.specs.declared.part.Part.{Part}
 use Rattle.ct_verify.specs.declared.part.Part.TheVariants as part
-use Rattle.ct_verify.specs.Step.{Step, On, Failed}
+use Rattle.ct_verify.specs.Step.{AfterLine, On, Failed}
 use Rattle.ct_verify.proofs.RuleSides.{HasItsSide, line_of-side, resolved-side}
 
 -- what holds of the lines where a reading is: none before the body and in a block of evidence, which is of an id; some after `done`
@@ -56,7 +56,7 @@ pub record IsSound (r : ReadingValue) : Type 0 where
   pub at : IsAt r.part r.lines
 
 -- so it does after a step, and no step fails for want of memory
-abbrev pub IsSoundStep : Step → Type 0
+abbrev pub IsSoundStep : AfterLine → Type 0
 IsSoundStep (On r) = IsSound r
 IsSoundStep (Failed k w) = w ≢ why.Evidence Memory
 
@@ -75,7 +75,7 @@ why_of-other NoPremise = λ e. absurd cc
 why_of-other (OtherValue stated given) = λ e. absurd cc
 
 unless_fault-sound : (r : ReadingValue) (k : ℕ) (c : Claim) (rule : Rule) (numbers : List ℕ) (fault : Option LineFault) → IsSound r → c.side ≡ rule_side rule
-    → line_fault (supports_of r.pieces) r.lines c rule numbers ≡ fault → IsSoundStep (unless_fault r k (line_by c rule numbers) fault)
+    → line_fault (supports_of r.pieces) r.lines c rule numbers ≡ fault → IsSoundStep (unless_wrong r k (line_by c rule numbers) fault)
 unless_fault-sound r k c rule numbers None h side is =
     record { standing = h.standing; derivation = derivation_by (supports_of r.pieces) r.lines c rule numbers side is h.derivation; at = tt }
 unless_fault-sound r k c rule numbers (Some fault) h side is = why_of-other fault

@@ -24,15 +24,15 @@ use Rattle.ct_verify.specs.declared.verdict.Why.TheVariants as why
 use Rattle.ct_verify.specs.declared.part.Block.{Block}
 use Rattle.ct_verify.specs.declared.part.Part.{Part}
 use Rattle.ct_verify.specs.declared.part.Part.TheVariants as part
-use Rattle.ct_verify.specs.Step.{Step, On, Failed}
+use Rattle.ct_verify.specs.Step.{AfterLine, On, Failed}
 
 -- one more piece
-abbrev pub with_piece : ReadingValue → PieceValue → ReadingValue
-with_piece r piece = record { pieces = r.pieces ++ piece ∷ []; lines = r.lines; part = part.Body }
+abbrev pub and_piece : ReadingValue → PieceValue → ReadingValue
+and_piece r piece = record { pieces = r.pieces ++ piece ∷ []; lines = r.lines; part = part.Body }
 
 -- one more line
-abbrev pub with_line : ReadingValue → LineValue → ReadingValue
-with_line r line = record { pieces = r.pieces; lines = r.lines ++ line ∷ []; part = part.Body }
+abbrev pub and_line : ReadingValue → LineValue → ReadingValue
+and_line r line = record { pieces = r.pieces; lines = r.lines ++ line ∷ []; part = part.Body }
 
 -- why a line fails that does not follow from those before it
 abbrev pub why_of : LineFault → Why
@@ -41,22 +41,22 @@ why_of NoPremise = why.Premise
 why_of (OtherValue stated given) = why.Value stated given
 
 -- after a line with this fault, or with none
-abbrev pub unless_fault : ReadingValue → ℕ → LineValue → Option LineFault → Step
-unless_fault r k line None = On (with_line r line)
-unless_fault r k line (Some fault) = Failed k (why_of fault)
+abbrev pub unless_wrong : ReadingValue → ℕ → LineValue → Option LineFault → AfterLine
+unless_wrong r k line None = On (and_line r line)
+unless_wrong r k line (Some fault) = Failed k (why_of fault)
 
 -- after a line that states this, by this rule: it has to follow from the lines before it and the evidence
-abbrev pub by_rule : ReadingValue → ℕ → StatedLineValue → Option Rule → Step
+abbrev pub by_rule : ReadingValue → ℕ → StatedLineValue → Option Rule → AfterLine
 by_rule r k l None = Failed k why.Rule
-by_rule r k l (Some rule) = unless_fault r k (line_by l.claim rule l.from) (line_fault (supports_of r.pieces) r.lines l.claim rule l.from)
+by_rule r k l (Some rule) = unless_wrong r k (line_by l.claim rule l.from) (line_fault (supports_of r.pieces) r.lines l.claim rule l.from)
 
 -- after a text line that states a line: its number has to be the next
-abbrev pub read_line : ReadingValue → ℕ → Option StatedLineValue → Step
+abbrev pub read_line : ReadingValue → ℕ → Option StatedLineValue → AfterLine
 read_line r k None = Failed k why.Form
 read_line r k (Some l) = if l.number == suc (length r.lines) then by_rule r k l (resolved r.pieces l.rule.rule l.rule.id) else Failed k why.Form
 
 -- after a text line that heads a block of evidence: no line may stand before it
-abbrev pub read_heading : ReadingValue → ℕ → Option Heading → Step
+abbrev pub read_heading : ReadingValue → ℕ → Option Heading → AfterLine
 read_heading r k None = Failed k why.Form
 read_heading r k (Some h) =
     if length r.lines == 0 then On (in_part (part.Evidence (record { line = k; id = h.id; document = record { extent = h.extent; text = [] } })) r)
@@ -68,7 +68,7 @@ is_only name (word ∷ []) = bytes_eq word name
 is_only name words = false
 
 -- after the text line of these words, where blocks of evidence, lines, or the end may stand: `done` has to follow a line
-abbrev pub read_body : ReadingValue → ℕ → List (List ℕ) → Step
+abbrev pub read_body : ReadingValue → ℕ → List (List ℕ) → AfterLine
 read_body r k [] = Failed k why.Form
 read_body r k (word ∷ words) =
     if bytes_eq word (codes "line") then read_line r k (line_of words)
@@ -77,22 +77,22 @@ read_body r k (word ∷ words) =
     else Failed k why.Form))
 
 -- after a block of evidence that began on this text line, where its submission makes this
-abbrev pub after_block : ReadingValue → ℕ → Result PieceValue SubmitFault → Step
-after_block r begun (Ok piece) = On (with_piece r piece)
+abbrev pub after_block : ReadingValue → ℕ → Result PieceValue SubmitFault → AfterLine
+after_block r begun (Ok piece) = On (and_piece r piece)
 after_block r begun (Err fault) = Failed begun (why.Evidence fault)
 
 -- after one more text line of a block of evidence
-abbrev pub read_block : ReadingValue → Block → Gathered → Step
+abbrev pub read_block : ReadingValue → Block → Gathered → AfterLine
 read_block r b (More document) = On (in_part (part.Evidence (record { line = b.line; id = b.id; document = document })) r)
 read_block r b (Whole document) = after_block r b.line (submitted r.pieces b.id document)
 
 -- after one more text line, the one with this number, by what may stand there
-abbrev pub read_in : Part → ReadingValue → ℕ → List ℕ → Step
+abbrev pub read_in : Part → ReadingValue → ℕ → List ℕ → AfterLine
 read_in part.Start r k text = if is_only (codes "derivation") (words_of text) then On (in_part part.Body r) else Failed k why.Form
 read_in part.Body r k text = read_body r k (words_of text)
 read_in (part.Evidence b) r k text = read_block r b (gathered b.document text)
 read_in part.Done r k text = Failed k why.Form
 
 -- after one more text line
-unfoldable pub read_next : ReadingValue → ℕ → List ℕ → Step
+unfoldable pub read_next : ReadingValue → ℕ → List ℕ → AfterLine
 read_next r k text = read_in r.part r k text

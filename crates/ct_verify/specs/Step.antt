@@ -4,6 +4,6 @@ use Rattle.ct_verify.specs.Read.{ReadingValue}
 use Rattle.ct_verify.specs.declared.verdict.Why.{Why}
 
 -- what was read, with this line; or the text line that fails, counted from 1, and why
-pub data Step : Type 0 where
-  On : ReadingValue → Step
-  Failed : ℕ → Why → Step
+pub data AfterLine : Type 0 where
+  On : ReadingValue → AfterLine
+  Failed : ℕ → Why → AfterLine

@@ -12,24 +12,24 @@ use Rattle.ct_verify.specs.declared.verdict.Verdict.{Verdict}
 use Rattle.ct_verify.specs.declared.verdict.Verdict.TheVariants.{Yes, No}
 use Rattle.ct_verify.specs.declared.part.Part.{Part}
 use Rattle.ct_verify.specs.declared.part.Part.TheVariants.{Start, Body, Evidence, Done}
-use Rattle.ct_verify.specs.Step.{Step, On, Failed}
+use Rattle.ct_verify.specs.Step.{AfterLine, On, Failed}
 
 -- the verdict where the text lines end at this part, and the next would have this number: a block that is not whole fails on the line on which it began
-abbrev pub ended : Part → ℕ → Verdict
-ended Start k = No k Form
-ended Body k = No k Form
-ended (Evidence b) k = No b.line Form
-ended Done k = Yes
+abbrev pub verdict_at_end : Part → ℕ → Verdict
+verdict_at_end Start k = No k Form
+verdict_at_end Body k = No k Form
+verdict_at_end (Evidence b) k = No b.line Form
+verdict_at_end Done k = Yes
 
 -- the verdict after a step: where it failed, that; else the verdict on what follows
-abbrev pub going_on : Step → (ReadingValue → Verdict) → Verdict
-going_on (On r) later = later r
-going_on (Failed k why) later = No k why
+abbrev pub verdict_after : AfterLine → (ReadingValue → Verdict) → Verdict
+verdict_after (On r) later = later r
+verdict_after (Failed k why) later = No k why
 
 -- the verdict on the text lines from this number on, after what was read: the first that fails decides
 abbrev pub verdict_from : ReadingValue → ℕ → List (List ℕ) → Verdict
-verdict_from r k [] = ended r.part k
-verdict_from r k (text ∷ texts) = going_on (read_next r k text) (λ next. verdict_from next (k + 1) texts)
+verdict_from r k [] = verdict_at_end r.part k
+verdict_from r k (text ∷ texts) = verdict_after (read_next r k text) (λ next. verdict_from next (k + 1) texts)
 
 -- the verdict on a document: its text lines are numbered from 1
 abbrev pub verdict_of : List ℕ → Verdict

@@ -10,7 +10,7 @@ ghost use Rattle.ct_verify.specs.StatedLine.{StatedLineValue, line_of};
 ghost use Rattle.ct_verify.specs.Read.{unread};
 ghost use Rattle.ct_verify.specs.Inside.Steps.{step_of, is_end};
 ghost use Rattle.ct_verify.specs.Reading.{why_of, by_rule, read_line, read_heading, is_only, read_body, after_block, read_block, read_next};
-ghost use Rattle.ct_verify.specs.Verdict.{ended};
+ghost use Rattle.ct_verify.specs.Verdict.{verdict_at_end};
 
 use crate::failure::Failure;
 use crate::heading::{Heading, parse_heading};
@@ -256,7 +256,7 @@ impl Reading {
 
     /// The verdict where the text lines end here, and the next would have this number.
     pub(crate) fn ended(&self, number: usize) -> Verdict
-        ensures { result ≡ ended self.now.part number }
+        ensures { result ≡ verdict_at_end self.now.part number }
     {
         match &self.part {
             Part::Start | Part::Body => Verdict::No(number, Why::Form),

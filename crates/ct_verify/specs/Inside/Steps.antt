@@ -2,11 +2,11 @@
 use Rattle.std.specs.Prelude.{ℕ, ◌==◌, ◌&&◌, not, Bool, List, length, Option, Some, None, codes}
 use Rattle.ct_verify.specs.Read.{ReadingValue}
 use Rattle.ct_verify.specs.Reading.{is_only}
-use Rattle.ct_verify.specs.Step.{Step, On, Failed}
+use Rattle.ct_verify.specs.Step.{AfterLine, On, Failed}
 use Rattle.ct_verify.specs.declared.failure.Failure.{Failure}
 
 -- a failure, or else this that was read
-abbrev pub step_of : Option Failure → ReadingValue → Step
+abbrev pub step_of : Option Failure → ReadingValue → AfterLine
 step_of None r = On r
 step_of (Some failure) r = Failed failure.line failure.why
 

@@ -4,14 +4,14 @@ use Rattle.std.proofs.lemmas.Bool.{eq-eqb, ne_eqb}
 use Rattle.ct_kind.specs.declared.evidence.Evidence.{Evidence}
 use Rattle.ct_piece.specs.Piece.{PieceValue}
 use Rattle.ct_sample.specs.Drawn.{drawn_evidence}
-use Rattle.ct_sample.specs.Command.{step_id, first_unused, command_of}
+use Rattle.ct_sample.specs.Command.{step_id, first_unused, command_drawn}
 use Rattle.ct_sample.specs.declared.command.Command.TheVariants.{Submit, Withdraw}
 use Rattle.ct_sample.proofs.command.command_of.Goals as goal
 use Rattle.ct_sample.proofs.command.command_of.Goals.{in-Some, in-None}
 
 -- the command by whether the step is a third one
 by_step : (step h : ℕ) (pieces : List PieceValue) (b : Bool) → (step % 3 == 0) ≡ b
-    → command_of step h pieces ≡ (if b then option_map Withdraw (first_unused pieces) else Some (Submit (step_id step) (drawn_evidence h pieces)))
+    → command_drawn step h pieces ≡ (if b then option_map Withdraw (first_unused pieces) else Some (Submit (step_id step) (drawn_evidence h pieces)))
 by_step step h pieces b is =
     ap (λ (t : Bool). if t then option_map Withdraw (first_unused pieces) else Some (Submit (step_id step) (drawn_evidence h pieces))) is
 

@@ -5,7 +5,7 @@ use Rattle.ct_verify.specs.Inside.Steps.{step_of}
 use Rattle.ct_verify.specs.Reading.{read_line, read_heading}
 use Rattle.ct_verify.specs.Read.{ReadingValue, in_part}
 use Rattle.ct_verify.specs.declared.part.Part.TheVariants as part
-use Rattle.ct_verify.specs.Step.{Step, On}
+use Rattle.ct_verify.specs.Step.{AfterLine, On}
 use Rattle.ct_verify.proofs.FailedLines.{failed_so, failed_without_words}
 use Rattle.ct_verify.proofs.LineSteps.{otherwise, lined, headed}
 use Rattle.ct_verify.proofs.RuleSides.{line_of-sides}
@@ -36,7 +36,7 @@ returns c =
 
 pub returns-then-eq : goal.returns-then-eq
 returns-then-eq c =
-    subst (λ (step : Step). IfOk c.read_line.result (λ failure. step_of failure c.read_line.new.self ≡ step))
+    subst (λ (step : AfterLine). IfOk c.read_line.result (λ failure. step_of failure c.read_line.new.self ≡ step))
     (ap (read_line c.args.self.now c.args.number) c.in_ok-line.ensures
     ∙ lined c.args.self.now c.args.number c.args.words.now _ (λ word. word.now) _ c.in-len1-up.len_at_least refl
     (sym (c.eq.ensures ∙ ap (bytes_eq (get_or c.args.words.now 0 _).now) c.as_slice.ensures) ∙ c.if-eq.true))

@@ -5,7 +5,7 @@ use Rattle.ct_verify.specs.Read.{ReadingValue}
 use Rattle.ct_verify.specs.StatedLine.{StatedLineValue}
 use Rattle.ct_verify.specs.StatedRule.{resolved}
 use Rattle.ct_verify.specs.Inside.Steps.{step_of}
-use Rattle.ct_verify.specs.Step.{Step}
+use Rattle.ct_verify.specs.Step.{AfterLine}
 use Rattle.ct_verify.specs.Reading.{read_line}
 use Rattle.ct_verify.proofs.FailedLines.{failed_so}
 use Rattle.ct_verify.proofs.LineSteps.{other_number}
@@ -22,7 +22,7 @@ read_by_rule-requires c =
 pub returns : goal.returns
 returns c =
     let lines_are : c.len.result ≡ length c.self.inside.lines.items = search rules in
-    subst (λ (next : Step). IfOk c.read_by_rule.result (λ failure. step_of failure c.read_by_rule.new.self ≡ next))
+    subst (λ (next : AfterLine). IfOk c.read_by_rule.result (λ failure. step_of failure c.read_by_rule.new.self ≡ next))
     (next_number c.args.self.now c.args.number c.in-Some.line c.args.line c.over-rule.result c.in-Some.is
     (sym (ap (λ (l : StatedLineValue). l.number) c.line.view_is) ∙ c.if-line-len.false
     ∙ ap (λ (n : ℕ). n + 1) (lines_are ∙ ap (λ (r : ReadingValue). length r.lines) c.self.view_is))

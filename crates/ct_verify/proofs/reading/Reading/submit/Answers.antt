@@ -3,7 +3,7 @@ use Rattle.ct_piece.specs.Piece.{PieceValue}
 use Rattle.ct_piece.specs.Submission.{submitted}
 use Rattle.ct_piece.specs.Supports.{supports_of}
 use Rattle.ct_verify.specs.Read.{ReadingValue}
-use Rattle.ct_verify.specs.Reading.{with_piece, after_block}
+use Rattle.ct_verify.specs.Reading.{and_piece, after_block}
 use Rattle.ct_verify.specs.declared.part.Part.TheVariants as part
 use Rattle.ct_verify.specs.Step.{On}
 use Rattle.ct_verify.proofs.FailedLines.{failed_so}
@@ -29,6 +29,6 @@ pub returns-in-Ok : goal.returns-in-Ok
 returns-in-Ok c =
     let added = c.in-Ok.ensures.accepted in
     ap (λ (ps : List PieceValue). On (record { pieces = ps; lines = c.self.inside.lines.items; part = part.Body })) added.pieces
-    ∙ ap (λ (r : ReadingValue). On (with_piece r added.piece)) c.self.view_is
+    ∙ ap (λ (r : ReadingValue). On (and_piece r added.piece)) c.self.view_is
     ∙ ap (after_block c.args.self.now c.args.begun)
     (sym added.made ∙ ap (λ (r : ReadingValue). submitted r.pieces c.args.id c.args.document) c.self.view_is)
