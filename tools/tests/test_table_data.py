@@ -96,11 +96,13 @@ class Data(unittest.TestCase):
 
     def test_the_schema_takes_the_data_and_nothing_less(self):
         self.assertEqual(list(faults(self.json, SCHEMA)), [])
+        few = {**self.json, "entries": self.json["entries"][:6]}
+        self.assertEqual(list(faults(few, SCHEMA)), [])
         for change in (lambda d: d.pop("made"), lambda d: d["entries"][0]["lower"].pop("rule"), lambda d: d["entries"][0].update(w=-1),
                        lambda d: d["pieces"][0].update(kind="guess"), lambda d: d["entries"][5]["upper"].update(derivation=[]), lambda d: d.update(more=1)):
-            changed = json.loads(json.dumps(self.json))
+            changed = json.loads(json.dumps(few))
             change(changed)
-            self.assertIsNotNone(next(iter(faults(changed, SCHEMA)), None))
+            self.assertNotEqual(list(faults(changed, SCHEMA)), [])
 
     def test_the_schema_ends_where_the_table_does(self):
         self.assertEqual([SCHEMA["$defs"][name]["maximum"] for name in "ndw"], [table.LAST] * 3)
