@@ -18,7 +18,7 @@ use Rattle.ct_rule_parts.proofs.PlainEntries.{one_item, two_items}
 use Rattle.ct_weight_rules.specs.Neighbours.{of_weight, even_of_weight, around, unweighted, unweighted_and_nearer}
 use Rattle.ct_weight_rules.specs.WithoutWeight.{without_weight}
 use Rattle.ct_weight_rules.specs.EliasBassalygo.{elias_bassalygo}
-use Rattle.ct_weight_rules.specs.Johnson.{johnson}
+use Rattle.ct_weight_rules.specs.Johnson.{johnson_above}
 use Rattle.ct_rules.specs.declared.rule.Rule.{Rule}
 use Rattle.ct_rules.specs.declared.rule.Rule.TheVariants.{L9, U9, U10}
 use Rattle.ct_rules.specs.Closed.{AreTrue}
@@ -39,7 +39,7 @@ plain_alone : (supports : List Support) (r : Rule) (n d k : ℕ) → is_by_weigh
     → applies supports r (record { n = n; d = d; w = Some k }) ≡ true → false ≡ true
 unfolding row_of
 plain_alone supports (L9 v) n d k by here = (defined (without_weight v) (record { n = n; d = d; w = Some k }) here).condition
-plain_alone supports U9 n d k by here = (defined johnson (record { n = n; d = d; w = Some k }) here).condition
+plain_alone supports U9 n d k by here = (defined johnson_above (record { n = n; d = d; w = Some k }) here).condition
 plain_alone supports (U10 v) n d k by here = (defined (elias_bassalygo v) (record { n = n; d = d; w = Some k }) here).condition
 plain_alone supports r n d k by here = absurd (false≢true by)
 

@@ -14,7 +14,7 @@ use Rattle.ct_rule_parts.specs.Parts.{is_defined, has_weight, within_limit}
 use Rattle.ct_rule_parts.specs.Slot.{claim_at}
 use Rattle.ct_rule_parts.specs.Support.{size_at}
 use Rattle.ct_plain_rules.specs.GivenCode.{given_code}
-use Rattle.ct_weight_rules.specs.GivenCode.{given_code as given_code_of_weight}
+use Rattle.ct_weight_rules.specs.GivenCode.{given_code_of_weight}
 use Rattle.ct_rules.specs.declared.rule.Rule.TheVariants.{L10, M10}
 use Rattle.ct_rules.specs.Derivation.{IsDerived}
 use Rattle.ct_rules.specs.Rule.{row_of}

@@ -32,22 +32,22 @@ use Rattle.ct_plain_rules.proofs.LawfulAllWords.{all_words-lawful}
 use Rattle.ct_plain_rules.proofs.LawfulFarWords.{far_words-lawful}
 use Rattle.ct_plain_rules.proofs.LawfulPlotkin.{plotkin-lawful}
 use Rattle.ct_plain_rules.proofs.LawfulSpherePacking.{sphere_packing-lawful}
-use Rattle.ct_weight_rules.proofs.LawfulOneWord.{one_word-lawful as one_word_of_weight-lawful}
+use Rattle.ct_weight_rules.proofs.LawfulOneWord.{one_word_of_weight-lawful}
 use Rattle.ct_weight_rules.proofs.LawfulDisjoint.{disjoint_below-lawful, disjoint_above-lawful}
 use Rattle.ct_weight_rules.proofs.LawfulLengthened.{lengthened_by_zero-lawful, lengthened_by_one-lawful}
 use Rattle.ct_weight_rules.proofs.LawfulJohnsonOne.{johnson_one_below-lawful, johnson_one_above-lawful}
 use Rattle.ct_weight_rules.proofs.LawfulJohnsonZero.{johnson_zero_below-lawful, johnson_zero_above-lawful}
 use Rattle.ct_weight_rules.proofs.LawfulComplemented.{complemented_below-lawful, complemented_above-lawful}
-use Rattle.ct_weight_rules.proofs.LawfulNearer.{nearer_below-lawful as nearer_below_of_weight-lawful, nearer_above-lawful as nearer_above_of_weight-lawful}
-use Rattle.ct_weight_rules.proofs.LawfulFarWords.{far_words-lawful as far_words_of_weight-lawful}
+use Rattle.ct_weight_rules.proofs.LawfulNearer.{nearer_below_of_weight-lawful, nearer_above_of_weight-lawful}
+use Rattle.ct_weight_rules.proofs.LawfulFarWords.{far_words_of_weight-lawful}
 use Rattle.ct_weight_rules.proofs.LawfulSplit.{split-lawful}
 use Rattle.ct_weight_rules.proofs.LawfulColumnPairs.{column_pairs-lawful}
 use Rattle.ct_weight_rules.proofs.LawfulWithoutWeight.{without_weight-lawful}
-use Rattle.ct_weight_rules.proofs.LawfulJohnson.{johnson-lawful}
+use Rattle.ct_weight_rules.proofs.LawfulJohnson.{johnson_above-lawful}
 use Rattle.ct_weight_rules.proofs.LawfulEliasBassalygo.{elias_bassalygo-lawful}
 use Rattle.ct_weight_rules.proofs.LawfulGrahamSloane.{graham_sloane-lawful}
-use Rattle.ct_weight_rules.proofs.LawfulGivenCode.{given_code-lawful as given_code_of_weight-lawful}
-use Rattle.ct_weight_rules.proofs.LawfulAllWords.{all_words-lawful as all_words_of_weight-lawful}
+use Rattle.ct_weight_rules.proofs.LawfulGivenCode.{given_code_of_weight-lawful}
+use Rattle.ct_weight_rules.proofs.LawfulAllWords.{all_words_of_weight-lawful}
 use Rattle.ct_weight_rules.proofs.LawfulDelsarte.{dual_above-lawful, dual_above_of_weight-lawful}
 use Rattle.ct_weight_rules.proofs.LawfulOddSizes.{odd_size_above-lawful}
 use Rattle.ct_weight_rules.proofs.LawfulLocalDuals.{local_above-lawful}
@@ -88,7 +88,7 @@ lawful U5 c = punctured_above-lawful c
 lawful U6 c = shortened_above-lawful c
 lawful U7 c = nearer_above-lawful c
 lawful U8 c = lengthened_above-lawful c
-lawful U9 c = johnson-lawful c
+lawful U9 c = johnson_above-lawful c
 lawful (U10 w) c = elias_bassalygo-lawful w c
 lawful (U11 place) c = dual_above-lawful c
 lawful (U12 place) c = odd_size_above-lawful c

@@ -15,10 +15,10 @@ use Rattle.ct_weight_rules.proofs.LawfulLengthened.{lengthened_by_zero-back, len
 use Rattle.ct_weight_rules.proofs.LawfulJohnsonOne.{johnson_one_below-back, johnson_one_above-back}
 use Rattle.ct_weight_rules.proofs.LawfulJohnsonZero.{johnson_zero_below-back, johnson_zero_above-back}
 use Rattle.ct_weight_rules.proofs.LawfulComplemented.{complemented_below-back, complemented_above-back}
-use Rattle.ct_weight_rules.proofs.LawfulNearer.{nearer_below-back as nearer_below_of_weight-back, nearer_above-back as nearer_above_of_weight-back}
+use Rattle.ct_weight_rules.proofs.LawfulNearer.{nearer_below_of_weight-back, nearer_above_of_weight-back}
 use Rattle.ct_weight_rules.proofs.LawfulSplit.{split-back}
 use Rattle.ct_weight_rules.proofs.LawfulWithoutWeight.{without_weight-back}
-use Rattle.ct_weight_rules.proofs.LawfulJohnson.{johnson-back}
+use Rattle.ct_weight_rules.proofs.LawfulJohnson.{johnson_above-back}
 use Rattle.ct_weight_rules.proofs.LawfulEliasBassalygo.{elias_bassalygo-back}
 use Rattle.ct_weight_rules.proofs.LawfulDelsarte.{dual_above-back}
 use Rattle.ct_weight_rules.proofs.LawfulOddSizes.{odd_size_above-back}
@@ -49,7 +49,7 @@ leads_back U5 c = punctured_above-back
 leads_back U6 c = shortened_above-back
 leads_back U7 c = nearer_above-back
 leads_back U8 c = lengthened_above-back
-leads_back U9 c = johnson-back
+leads_back U9 c = johnson_above-back
 leads_back (U10 w) c = elias_bassalygo-back w
 leads_back (U11 place) c = dual_above-back c
 leads_back (U12 place) c = odd_size_above-back c

@@ -19,22 +19,22 @@ use Rattle.ct_plain_rules.specs.AllWords.{all_words}
 use Rattle.ct_plain_rules.specs.FarWords.{far_words}
 use Rattle.ct_plain_rules.specs.Plotkin.{plotkin}
 use Rattle.ct_plain_rules.specs.SpherePacking.{sphere_packing}
-use Rattle.ct_weight_rules.specs.OneWord.{one_word as one_word_of_weight}
+use Rattle.ct_weight_rules.specs.OneWord.{one_word_of_weight}
 use Rattle.ct_weight_rules.specs.Disjoint.{disjoint_below, disjoint_above}
 use Rattle.ct_weight_rules.specs.Lengthened.{lengthened_by_zero, lengthened_by_one}
 use Rattle.ct_weight_rules.specs.JohnsonOne.{johnson_one_below, johnson_one_above}
 use Rattle.ct_weight_rules.specs.JohnsonZero.{johnson_zero_below, johnson_zero_above}
 use Rattle.ct_weight_rules.specs.Complemented.{complemented_below, complemented_above}
-use Rattle.ct_weight_rules.specs.Nearer.{nearer_below as nearer_below_of_weight, nearer_above as nearer_above_of_weight}
-use Rattle.ct_weight_rules.specs.FarWords.{far_words as far_words_of_weight}
+use Rattle.ct_weight_rules.specs.Nearer.{nearer_below_of_weight, nearer_above_of_weight}
+use Rattle.ct_weight_rules.specs.FarWords.{far_words_of_weight}
 use Rattle.ct_weight_rules.specs.Split.{split}
 use Rattle.ct_weight_rules.specs.ColumnPairs.{column_pairs}
 use Rattle.ct_weight_rules.specs.WithoutWeight.{without_weight}
-use Rattle.ct_weight_rules.specs.Johnson.{johnson}
+use Rattle.ct_weight_rules.specs.Johnson.{johnson_above}
 use Rattle.ct_weight_rules.specs.EliasBassalygo.{elias_bassalygo}
 use Rattle.ct_weight_rules.specs.GrahamSloane.{graham_sloane}
-use Rattle.ct_weight_rules.specs.GivenCode.{given_code as given_code_of_weight}
-use Rattle.ct_weight_rules.specs.AllWords.{all_words as all_words_of_weight}
+use Rattle.ct_weight_rules.specs.GivenCode.{given_code_of_weight}
+use Rattle.ct_weight_rules.specs.AllWords.{all_words_of_weight}
 use Rattle.ct_weight_rules.specs.Delsarte.{dual_above, dual_above_of_weight}
 use Rattle.ct_weight_rules.specs.OddSizes.{odd_size_above}
 use Rattle.ct_weight_rules.specs.LocalDuals.{local_above}
@@ -90,7 +90,7 @@ row_of U5 = by_itself (codes "U5") punctured_above
 row_of U6 = by_itself (codes "U6") shortened_above
 row_of U7 = by_itself (codes "U7") nearer_above
 row_of U8 = by_itself (codes "U8") lengthened_above
-row_of U9 = by_weight (codes "U9") no_arguments johnson
+row_of U9 = by_weight (codes "U9") no_arguments johnson_above
 row_of (U10 w) = by_weight (codes "U10") (one_number U10 w) (elias_bassalygo w)
 row_of (U11 place) = by_support (codes "U11") U11 place dual_above
 row_of (U12 place) = by_support (codes "U12") U12 place odd_size_above

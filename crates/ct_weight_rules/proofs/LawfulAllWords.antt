@@ -12,10 +12,10 @@ use Rattle.ct_rule_parts.specs.Parts.{weight_of}
 use Rattle.ct_rule_parts.proofs.Lawful.{IsLawful, same_number, no_worse-same}
 use Rattle.ct_rule_parts.proofs.PlainEntries.{a_weight}
 use Rattle.ct_rule_parts.proofs.WeightEntries.{weight_within, upper_of_weight}
-use Rattle.ct_weight_rules.specs.AllWords.{all_words}
+use Rattle.ct_weight_rules.specs.AllWords.{all_words_of_weight}
 
-pub all_words-lawful : (c : Option Support) → IsLawful c all_words
-all_words-lawful c = record {
+pub all_words_of_weight-lawful : (c : Option Support) → IsLawful c all_words_of_weight
+all_words_of_weight-lawful c = record {
   sound = λ e vs x stand entry condition known is.
       let limits = entry_limits e entry in
       let weighted = a_weight e condition in

@@ -10,10 +10,10 @@ use Rattle.ct_rule_parts.specs.Parts.{has_weight, weight_of}
 use Rattle.ct_rule_parts.proofs.Lawful.{IsLawful, same_number, no_worse-same}
 use Rattle.ct_rule_parts.proofs.PlainEntries.{a_weight}
 use Rattle.ct_rule_parts.proofs.WeightEntries.{upper_of_weight}
-use Rattle.ct_weight_rules.specs.FarWords.{far_words}
+use Rattle.ct_weight_rules.specs.FarWords.{far_words_of_weight}
 
-pub far_words-lawful : (c : Option Support) → IsLawful c far_words
-far_words-lawful c = record {
+pub far_words_of_weight-lawful : (c : Option Support) → IsLawful c far_words_of_weight
+far_words_of_weight-lawful c = record {
   sound = λ e vs x stand entry condition known is.
       let w = weight_of e in
       let most = 2 * min w (e.n - w) in

@@ -14,10 +14,10 @@ use Rattle.ct_rule_parts.proofs.PlainEntries.{no_weight, written, turns_back}
 use Rattle.ct_rule_parts.proofs.PlainNumbers.{upper_number}
 use Rattle.ct_weight_rules.specs.Inside.RestedOn.{by_johnson}
 use Rattle.ct_weight_rules.specs.Neighbours.{around, unweighted_and_nearer}
-use Rattle.ct_weight_rules.specs.Johnson.{johnson}
+use Rattle.ct_weight_rules.specs.Johnson.{johnson_above}
 
-pub johnson-lawful : (c : Option Support) → IsLawful c johnson
-johnson-lawful c = record {
+pub johnson_above-lawful : (c : Option Support) → IsLawful c johnson_above
+johnson_above-lawful c = record {
   sound = λ e vs x stand entry plain known is.
       let premise = only_value _ vs known in
       let limits = entry_limits (around e) premise.entry in
@@ -34,7 +34,7 @@ johnson-lawful c = record {
   few = λ e stand entry. omega arith;
 }
 
-pub johnson-back : LeadsBack johnson by_johnson
-johnson-back e f defined rests =
+pub johnson_above-back : LeadsBack johnson_above by_johnson
+johnson_above-back e f defined rests =
     turns_back around unweighted_and_nearer e f
-    (written e.n (e.d + 1 - 1) e (no_weight e (defined_condition johnson e defined)) refl (omega arith)) rests
+    (written e.n (e.d + 1 - 1) e (no_weight e (defined_condition johnson_above e defined)) refl (omega arith)) rests

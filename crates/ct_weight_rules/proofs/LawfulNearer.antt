@@ -8,12 +8,12 @@ use Rattle.ct_rule_parts.specs.Parts.{weight_of, first}
 use Rattle.ct_rule_parts.proofs.Lawful.{IsLawful, LeadsBack, only_value, same_number, no_worse-other, first-no_better, defined_entry, defined_condition}
 use Rattle.ct_rule_parts.proofs.PlainEntries.{a_weight, turns_back}
 use Rattle.ct_rule_parts.proofs.WeightEntries.{lower_of_weight, upper_of_weight}
-use Rattle.ct_weight_rules.specs.Nearer.{nearer_below, nearer_above}
+use Rattle.ct_weight_rules.specs.Nearer.{nearer_below_of_weight, nearer_above_of_weight}
 use Rattle.ct_weight_rules.specs.Neighbours.{two_nearer, two_farther}
 use Rattle.ct_weight_rules.proofs.WeightNeighbours.{two_nearer-two_farther, two_farther-two_nearer}
 
-pub nearer_below-lawful : (c : Option Support) → IsLawful c nearer_below
-nearer_below-lawful c = record {
+pub nearer_below_of_weight-lawful : (c : Option Support) → IsLawful c nearer_below_of_weight
+nearer_below_of_weight-lawful c = record {
   sound = λ e vs x stand entry condition known is.
       let premise = only_value _ vs known in
       let code = premise.truth in
@@ -24,13 +24,13 @@ nearer_below-lawful c = record {
   few = λ e stand entry. omega arith;
 }
 
-pub nearer_below-back : LeadsBack nearer_below (λ e. two_nearer e ∷ [])
-nearer_below-back e f defined rests =
+pub nearer_below_of_weight-back : LeadsBack nearer_below_of_weight (λ e. two_nearer e ∷ [])
+nearer_below_of_weight-back e f defined rests =
     turns_back two_farther two_nearer e f
-    (two_nearer-two_farther e (a_weight e (defined_condition nearer_below e defined))) rests
+    (two_nearer-two_farther e (a_weight e (defined_condition nearer_below_of_weight e defined))) rests
 
-pub nearer_above-lawful : (c : Option Support) → IsLawful c nearer_above
-nearer_above-lawful c = record {
+pub nearer_above_of_weight-lawful : (c : Option Support) → IsLawful c nearer_above_of_weight
+nearer_above_of_weight-lawful c = record {
   sound = λ e vs x stand entry condition known is.
       let premise = only_value _ vs known in
       same_number Upper e (first vs) x is
@@ -40,8 +40,8 @@ nearer_above-lawful c = record {
   few = λ e stand entry. omega arith;
 }
 
-pub nearer_above-back : LeadsBack nearer_above (λ e. two_farther e ∷ [])
-nearer_above-back e f defined rests =
+pub nearer_above_of_weight-back : LeadsBack nearer_above_of_weight (λ e. two_farther e ∷ [])
+nearer_above_of_weight-back e f defined rests =
     turns_back two_nearer two_farther e f
-    (two_farther-two_nearer e (defined_entry nearer_above e defined) (a_weight e (defined_condition nearer_above e defined)))
+    (two_farther-two_nearer e (defined_entry nearer_above_of_weight e defined) (a_weight e (defined_condition nearer_above_of_weight e defined)))
     rests

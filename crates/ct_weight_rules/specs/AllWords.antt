@@ -5,8 +5,8 @@ use Rattle.ct_words.specs.Counting.Binomials.{choose}
 use Rattle.ct_rule_parts.specs.Parts.{RuleParts, has_weight, weight_of}
 
 -- A(n,d,w) is at most C(n,w)
-abbrev pub all_words : RuleParts
-all_words = record {
+abbrev pub all_words_of_weight : RuleParts
+all_words_of_weight = record {
   side = Upper;
   condition = has_weight;
   rests_on = λ e. [];

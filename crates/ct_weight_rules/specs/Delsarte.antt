@@ -13,9 +13,9 @@ premises_of_dual None = []
 premises_of_dual (Some a) = dual_premises a.dual
 
 -- its bound from theirs
-abbrev pub bound_of_dual : Option AcceptedValue → List ℕ → Option ℕ
-bound_of_dual None vs = None
-bound_of_dual (Some a) vs = Some (dual_bound a.dual a.at_zero vs)
+abbrev pub bound_from_dual : Option AcceptedValue → List ℕ → Option ℕ
+bound_from_dual None vs = None
+bound_from_dual (Some a) vs = Some (dual_bound a.dual a.at_zero vs)
 
 -- U11 of a support: A(n,d) is at most the bound of its dual, from those of A(n,2⌈d/2⌉,i) for each i where the dual allows more than 0
 abbrev pub dual_above : Option Support → RuleParts
@@ -23,7 +23,7 @@ dual_above c = record {
   side = Upper;
   condition = λ e. not (has_weight e) && is_some (dual_at c e);
   rests_on = λ e. premises_of_dual (dual_at c e);
-  number = λ e vs. bound_of_dual (dual_at c e) vs;
+  number = λ e vs. bound_from_dual (dual_at c e) vs;
 }
 
 -- V9 of a support: A(n,d,w) is at most the bound of its dual, which rests on nothing
@@ -32,5 +32,5 @@ dual_above_of_weight c = record {
   side = Upper;
   condition = λ e. has_weight e && is_some (dual_at c e);
   rests_on = λ e. [];
-  number = λ e vs. bound_of_dual (dual_at c e) vs;
+  number = λ e vs. bound_from_dual (dual_at c e) vs;
 }

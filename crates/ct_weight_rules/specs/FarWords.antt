@@ -10,8 +10,8 @@ abbrev pub has_no_far_words : Entry → Bool
 has_no_far_words e = has_weight e && nat_lt (2 * min (weight_of e) (e.n - weight_of e)) e.d
 
 -- for d > 2·min(w, n - w), A(n,d,w) is at most 1
-abbrev pub far_words : RuleParts
-far_words = record {
+abbrev pub far_words_of_weight : RuleParts
+far_words_of_weight = record {
   side = Upper;
   condition = has_no_far_words;
   rests_on = λ e. [];

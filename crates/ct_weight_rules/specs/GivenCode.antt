@@ -6,8 +6,8 @@ use Rattle.ct_rule_parts.specs.Parts.{RuleParts, has_weight}
 use Rattle.ct_rule_parts.specs.Support.{size_at}
 
 -- of a support: A(n,d,w) is at least the number of words of the code that supports it
-abbrev pub given_code : Option Support → RuleParts
-given_code c = record {
+abbrev pub given_code_of_weight : Option Support → RuleParts
+given_code_of_weight c = record {
   side = Lower;
   condition = λ e. has_weight e && is_some (size_at c e);
   rests_on = λ e. [];

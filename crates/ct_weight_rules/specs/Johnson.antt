@@ -8,8 +8,8 @@ use Rattle.ct_weight_rules.specs.Neighbours.{around}
 
 -- for d = 2δ - 1 ≤ n, A(n,d) is at most ⌊2^n·F/(F·V(n,δ-1)+R)⌋, with F = ⌊n/δ⌋, V(n,e) the size of a ball and
 -- R = C(n,δ) - C(d,δ-1)·A(n,d+1,d); there is no number where R is not above 0
-abbrev pub johnson : RuleParts
-johnson = record {
+abbrev pub johnson_above : RuleParts
+johnson_above = record {
   side = Upper;
   condition = λ e. not (has_weight e);
   rests_on = λ e. around e ∷ [];

@@ -5,8 +5,8 @@ use Rattle.ct_rule_parts.specs.Parts.{RuleParts, has_weight, first}
 use Rattle.ct_weight_rules.specs.Neighbours.{two_nearer, two_farther}
 
 -- A(n,d,w) is at least A(n,d+2,w)
-abbrev pub nearer_below : RuleParts
-nearer_below = record {
+abbrev pub nearer_below_of_weight : RuleParts
+nearer_below_of_weight = record {
   side = Lower;
   condition = has_weight;
   rests_on = λ e. two_farther e ∷ [];
@@ -14,8 +14,8 @@ nearer_below = record {
 }
 
 -- A(n,d,w) is at most A(n,d-2,w)
-abbrev pub nearer_above : RuleParts
-nearer_above = record {
+abbrev pub nearer_above_of_weight : RuleParts
+nearer_above_of_weight = record {
   side = Upper;
   condition = has_weight;
   rests_on = λ e. two_nearer e ∷ [];

@@ -4,16 +4,16 @@ ghost use Rattle.std.specs.Prelude.{◌≡◌, ◌+◌, true, false, [], Some};
 ghost use Rattle.ct_words.specs.declared.limits.TheConstants.{MAX_N};
 ghost use Rattle.ct_words.specs.Entry.{unrestricted, constant_weight};
 ghost use Rattle.ct_rule_parts.specs.Parts.{is_defined};
-ghost use Rattle.ct_weight_rules.specs.AllWords.{all_words};
+ghost use Rattle.ct_weight_rules.specs.AllWords.{all_words_of_weight};
 
 /// Where the rule is defined, that it rests on nothing, and what it gives.
 pub fn known_all_words()
-    ensures defined { is_defined all_words (constant_weight MAX_N MAX_N 0) ≡ true }
-    ensures rests_on { all_words.rests_on (constant_weight MAX_N MAX_N 0) ≡ [] }
-    ensures value { all_words.number (constant_weight 4 4 2) [] ≡ Some 6 }
-    ensures no_ones { all_words.number (constant_weight MAX_N MAX_N 0) [] ≡ Some 1 }
-    ensures within { is_defined all_words (constant_weight 8 6 4) ≡ true }
-    ensures no_weight { is_defined all_words (unrestricted 8 6) ≡ false }
-    ensures no_entry { is_defined all_words (unrestricted (MAX_N + 1) 6) ≡ false }
-    ensures long { is_defined all_words (constant_weight (MAX_N + 1) 6 4) ≡ false }
+    ensures defined { is_defined all_words_of_weight (constant_weight MAX_N MAX_N 0) ≡ true }
+    ensures rests_on { all_words_of_weight.rests_on (constant_weight MAX_N MAX_N 0) ≡ [] }
+    ensures value { all_words_of_weight.number (constant_weight 4 4 2) [] ≡ Some 6 }
+    ensures no_ones { all_words_of_weight.number (constant_weight MAX_N MAX_N 0) [] ≡ Some 1 }
+    ensures within { is_defined all_words_of_weight (constant_weight 8 6 4) ≡ true }
+    ensures no_weight { is_defined all_words_of_weight (unrestricted 8 6) ≡ false }
+    ensures no_entry { is_defined all_words_of_weight (unrestricted (MAX_N + 1) 6) ≡ false }
+    ensures long { is_defined all_words_of_weight (constant_weight (MAX_N + 1) 6 4) ≡ false }
 {}
