@@ -10,7 +10,7 @@ use Rattle.std.proofs.lemmas.Option.{slice_get_within, slice_get-get_or, same_So
 use Rattle.std.proofs.lemmas.List.{length-replicate}
 use Rattle.std.proofs.lemmas.List.Elements.{All-nil, All-cons, All-weaker, All-contains}
 use Rattle.ct_rule_parts.specs.declared.support.Support.{Support}
-use Rattle.ct_rules.specs.Rule.{place_of}
+use Rattle.ct_rules.specs.Rule.{named_place}
 use Rattle.ct_rules.specs.Derivation.{LineValue, IsDerivation}
 use Rattle.ct_rules.proofs.Applied.{applies_from_premises}
 use Rattle.ct_rules.proofs.LoweredRules.{support_there}
@@ -22,11 +22,11 @@ use Rattle.ct_derive.proofs.MarkedLines.{length-with_marks, with_marks-kept, wit
 
 -- what holds of each place that a line names holds of all
 pub All-cited : (P : ℕ → Type 0) (lines : List LineValue)
-    → ((i : ℕ) (l : LineValue) (p : ℕ) → slice_get lines i ≡ Some l → place_of l.rule ≡ Some p → P p) → All P (cited_places lines)
+    → ((i : ℕ) (l : LineValue) (p : ℕ) → slice_get lines i ≡ Some l → named_place l.rule ≡ Some p → P p) → All P (cited_places lines)
 All-cited P [] each = All-nil P
-All-cited P (l ∷ lines) each = go (place_of l.rule) refl (All-cited P lines (λ i m p at is. each (suc i) m p at is))
+All-cited P (l ∷ lines) each = go (named_place l.rule) refl (All-cited P lines (λ i m p at is. each (suc i) m p at is))
   where
-    go : (o : Option ℕ) → place_of l.rule ≡ o → All P (cited_places lines) → All P (cons_option o (cited_places lines))
+    go : (o : Option ℕ) → named_place l.rule ≡ o → All P (cited_places lines) → All P (cons_option o (cited_places lines))
     go None is rest = rest
     go (Some p) is rest = All-cons P p (cited_places lines) (each 0 l p refl is) rest
 
@@ -41,25 +41,25 @@ cited_within supports lines derivation =
     slice_get_within supports p there.0 there.1)
 
 -- the place that one of the lines names is among them
-cited_at : (lines : List LineValue) (i : ℕ) (l : LineValue) (p : ℕ) → slice_get lines i ≡ Some l → place_of l.rule ≡ Some p
+cited_at : (lines : List LineValue) (i : ℕ) (l : LineValue) (p : ℕ) → slice_get lines i ≡ Some l → named_place l.rule ≡ Some p
     → Contains (cited_places lines) p
 cited_at [] i l p at is = absurd (none-some l at)
-cited_at (m ∷ lines) zero l p at is = go (place_of m.rule) (ap (λ (x : LineValue). place_of x.rule) (same_Some m l at) ∙ is)
+cited_at (m ∷ lines) zero l p at is = go (named_place m.rule) (ap (λ (x : LineValue). named_place x.rule) (same_Some m l at) ∙ is)
   where
     go : (o : Option ℕ) → o ≡ Some p → Contains (cons_option o (cited_places lines)) p
     go None h = absurd (none-some p h)
     go (Some q) h = (0, omega arith, same_Some q p h)
-cited_at (m ∷ lines) (suc i) l p at is = go (place_of m.rule) (cited_at lines i l p at is)
+cited_at (m ∷ lines) (suc i) l p at is = go (named_place m.rule) (cited_at lines i l p at is)
   where
     go : (o : Option ℕ) → Contains (cited_places lines) p → Contains (cons_option o (cited_places lines)) p
     go None has = has
     go (Some q) has = (suc has.0, omega (arith, has.1), has.2)
 
 pub cited_of_line : (P : ℕ → Type 0) (lines : List LineValue) (i : ℕ) (l : LineValue) → slice_get lines i ≡ Some l
-    → All P (cited_places lines) → All P (option_to_list (place_of l.rule))
-cited_of_line P lines i l at all = go (place_of l.rule) refl
+    → All P (cited_places lines) → All P (option_to_list (named_place l.rule))
+cited_of_line P lines i l at all = go (named_place l.rule) refl
   where
-    go : (o : Option ℕ) → place_of l.rule ≡ o → All P (option_to_list o)
+    go : (o : Option ℕ) → named_place l.rule ≡ o → All P (option_to_list o)
     go None is = All-nil P
     go (Some p) is = All-cons P p [] (All-contains P (cited_places lines) p all (cited_at lines i l p at is)) (All-nil P)
 

@@ -2,12 +2,12 @@
 use Rattle.std.specs.Prelude.{◌≡◌, ◌<◌, ℕ, ◌↔◌, List, [], All, Contains, slice_get, Some}
 use Rattle.std.specs.List.{filter_map, slice_index_or}
 use Rattle.std.specs.List.Sorted.{IsStrictlyIncreasing}
-use Rattle.ct_rules.specs.Rule.{place_of}
+use Rattle.ct_rules.specs.Rule.{named_place}
 use Rattle.ct_rules.specs.Derivation.{LineValue}
 
 -- the places of the supports that the rules of lines name, in the order of the lines
 abbrev pub cited_places : List LineValue → List ℕ
-cited_places lines = filter_map (λ l. place_of l.rule) lines
+cited_places lines = filter_map (λ l. named_place l.rule) lines
 
 -- the places of the parts of the piece at a place, where each piece has a list of them
 abbrev pub parts_at : List (List ℕ) → ℕ → List ℕ

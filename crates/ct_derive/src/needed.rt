@@ -3,7 +3,7 @@
 ghost use Rattle.std.specs.Prelude.{◌≡◌, ◌+◌, ◌<◌, ◌≤◌, ◌^◌, ℕ, List, All, IfOk, OnOk, false, length, replicate};
 ghost use Rattle.std.specs.Option.{option_to_list};
 ghost use Rattle.ct_rules.specs.Derivation.{LineValue};
-ghost use Rattle.ct_rules.specs.Rule.{place_of};
+ghost use Rattle.ct_rules.specs.Rule.{named_place};
 ghost use Rattle.ct_derive.specs.Pieces.{cited_places, AreEarlier, AreNeeded};
 ghost use Rattle.ct_derive.specs.Inside.Needed.{AreMarkedPieces};
 ghost use Rattle.ct_derive.specs.Pruning.{with_marks};
@@ -15,8 +15,8 @@ use std::alloc::{AllocError, Global};
 
 /// Marks the piece whose support the rule names, where it names one.
 fn mark_cited(marks: &mut [bool], rule: Rule)
-    requires { All (λ p. p < length marks.old) (option_to_list (place_of rule)) }
-    ensures { marks.new ≡ with_marks (option_to_list (place_of rule)) marks.old }
+    requires { All (λ p. p < length marks.old) (option_to_list (named_place rule)) }
+    ensures { marks.new ≡ with_marks (option_to_list (named_place rule)) marks.old }
 {
     if let Some(place) = place_of(rule) {
         marks[place as usize] = true;

@@ -4,7 +4,7 @@ use Rattle.std.specs.Prelude.{false}
 use Rattle.std.proofs.Math.Nat.{div-add-mod, mul-le-mul_left, le_of_mul-le-mul_left}
 use Rattle.std.proofs.lemmas.Bool.{le-ltb}
 use Rattle.ct_johnson.proofs.PairCounts.{quarter}
-use Rattle.ct_doubly.specs.Doubly.{least_squares, are_too_many}
+use Rattle.ct_doubly.specs.Doubly.{least_squares, are_too_many_by_squares}
 
 -- n times the least squares of t = nq + r ones are t² + r(n - r)
 squares-le_at : (n q r s t : ℕ) → n ≡ r + s → t ≡ n * q + r → 4 * (n * (n * (q * q) + 2 * (q * r) + r)) ≤ 4 * (t * t) + n * n
@@ -55,7 +55,7 @@ few_at w δ (suc k) s few =
 -- so from there on no number is too many
 pub not_too_many-from : (n1 w1 n2 w2 δ m : ℕ) → w1 ≤ n1 → w2 ≤ n2
     → δ * max n1 1 * max n2 1 ≤ w1 * (n1 - w1) * max n2 1 + w2 * (n2 - w2) * max n1 1 → n1 + n2 ≤ 4 * δ * m
-    → are_too_many n1 w1 n2 w2 δ m ≡ false
+    → are_too_many_by_squares n1 w1 n2 w2 δ m ≡ false
 not_too_many-from n1 w1 n2 w2 δ m first last far long =
     le-ltb ((w1 + w2) * (m * m)) (δ * (m * (m - 1)) + (least_squares n1 (w1 * m) + least_squares n2 (w2 * m)))
     (few_at (w1 + w2) δ m (least_squares n1 (w1 * m) + least_squares n2 (w2 * m))

@@ -10,7 +10,7 @@ use Rattle.ct_words.proofs.Counting.Binomials.{choose-le, one-le-choose}
 use Rattle.ct_words.proofs.Counting.Choices.{choose-product-le}
 use Rattle.ct_johnson.specs.declared.columns.TheConstants.{MAX_COUNTED}
 use Rattle.ct_johnson.specs.Bounds.{least_from}
-use Rattle.ct_doubly.specs.Doubly.{are_too_many, below_found, counted_bound, shortened_bound, doubly_after}
+use Rattle.ct_doubly.specs.Doubly.{are_too_many_by_squares, below_found, counted_bound, shortened_bound, doubly_after}
 use Rattle.ct_doubly.proofs.Halves.{IsHalvesBound, lesser_bound}
 use Rattle.ct_doubly.proofs.CountedWords.{far_bound, all_bound}
 use Rattle.ct_doubly.proofs.SquareCounts.{too_many_bound}
@@ -56,12 +56,12 @@ counted_sound n1 w1 n2 w2 d short some even =
           let few = all-le n1 w1 n2 w2 short in
           omega arith in
           rw (le-ltb (most_apart n1 w1 n2 w2) d near)
-          (below_found-has (IsHalvesBound n1 w1 n2 w2 d) (are_too_many n1 w1 n2 w2 (d / 2)) (MAX_COUNTED - 1) 2 (word_count n1 w1 n2 w2) all
+          (below_found-has (IsHalvesBound n1 w1 n2 w2 d) (are_too_many_by_squares n1 w1 n2 w2 (d / 2)) (MAX_COUNTED - 1) 2 (word_count n1 w1 n2 w2) all
           (λ m more passes.
           lesser_bound n1 w1 n2 w2 d (m - 1) (word_count n1 w1 n2 w2) (counted m near passes) all))
     ]
   where
-    counted : (m : ℕ) → d ≤ most_apart n1 w1 n2 w2 → are_too_many n1 w1 n2 w2 (d / 2) m ≡ true → IsHalvesBound n1 w1 n2 w2 d (m - 1)
+    counted : (m : ℕ) → d ≤ most_apart n1 w1 n2 w2 → are_too_many_by_squares n1 w1 n2 w2 (d / 2) m ≡ true → IsHalvesBound n1 w1 n2 w2 d (m - 1)
     counted m near passes =
         let double : 2 * (d / 2) ≡ d = omega arith in
         subst (λ e. IsHalvesBound n1 w1 n2 w2 e (m - 1)) double (too_many_bound n1 w1 n2 w2 (d / 2) m (omega arith) passes)
@@ -112,7 +112,7 @@ one-le-counted n1 w1 n2 w2 d first last =
           let words = mul-le-mul (one-le-choose n1 w1 first) (one-le-choose n2 w2 last) in
           let all : 1 ≤ word_count n1 w1 n2 w2 = omega arith in
           rw (le-ltb (most_apart n1 w1 n2 w2) d near)
-          (below_found-has (λ v. 1 ≤ v) (are_too_many n1 w1 n2 w2 (d / 2)) (MAX_COUNTED - 1) 2 (word_count n1 w1 n2 w2) all
+          (below_found-has (λ v. 1 ≤ v) (are_too_many_by_squares n1 w1 n2 w2 (d / 2)) (MAX_COUNTED - 1) 2 (word_count n1 w1 n2 w2) all
           (λ m more passes. omega arith))
     ]
 
@@ -143,7 +143,7 @@ counted-le n1 w1 n2 w2 d =
       | inl far ↦ rw (lt-ltb (most_apart n1 w1 n2 w2) d far) (omega arith)
       | inr near ↦
           rw (le-ltb (most_apart n1 w1 n2 w2) d near)
-          (below_found-has (λ v. v ≤ MAX_BOUND) (are_too_many n1 w1 n2 w2 (d / 2)) (MAX_COUNTED - 1) 2 (word_count n1 w1 n2 w2) (omega arith)
+          (below_found-has (λ v. v ≤ MAX_BOUND) (are_too_many_by_squares n1 w1 n2 w2 (d / 2)) (MAX_COUNTED - 1) 2 (word_count n1 w1 n2 w2) (omega arith)
           (λ m more passes. omega arith))
     ]
 

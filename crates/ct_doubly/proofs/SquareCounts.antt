@@ -11,7 +11,7 @@ use Rattle.ct_words.proofs.Counting.Sums.{sum_by-constant, sum_by-congruence_wit
 use Rattle.ct_words.proofs.Counting.Pairs.{AllPairs-within}
 use Rattle.ct_words.proofs.Counting.PairSums.{pair_sum, pair_sum-le, pair_sum-add, pair_sum-map}
 use Rattle.ct_words.proofs.Counting.CommonOnes.{common_ones, ones-common, common_self, common_symmetric, columns-ge}
-use Rattle.ct_doubly.specs.Doubly.{least_squares, are_too_many}
+use Rattle.ct_doubly.specs.Doubly.{least_squares, are_too_many_by_squares}
 use Rattle.ct_doubly.proofs.Halves.{Halves, first_half, last_half, IsHalf, AreHalves, halves_apart, AreFarHalves, IsHalvesBound, far_take}
 
 -- the pairs of words with a one at a place, place by place, are at least the least squares
@@ -53,7 +53,7 @@ both_common b c = common_ones (first_half b) (first_half c) + common_ones (last_
 
 -- the words of a list are not too many
 not_too_many : (n1 w1 n2 w2 δ : ℕ) (cs : List Halves) → δ ≤ w1 + w2 → AreFarHalves n1 w1 n2 w2 (2 * δ) cs
-    → are_too_many n1 w1 n2 w2 δ (length cs) ≡ false
+    → are_too_many_by_squares n1 w1 n2 w2 δ (length cs) ≡ false
 not_too_many n1 w1 n2 w2 δ cs fits code =
     let m = length cs in
     let w = w1 + w2 in
@@ -97,12 +97,12 @@ not_too_many n1 w1 n2 w2 δ cs fits code =
         omega arith
 
 -- so where a number is too many, there are fewer words
-pub too_many_bound : (n1 w1 n2 w2 δ m : ℕ) → δ ≤ w1 + w2 → are_too_many n1 w1 n2 w2 δ m ≡ true → IsHalvesBound n1 w1 n2 w2 (2 * δ) (m - 1)
+pub too_many_bound : (n1 w1 n2 w2 δ m : ℕ) → δ ≤ w1 + w2 → are_too_many_by_squares n1 w1 n2 w2 δ m ≡ true → IsHalvesBound n1 w1 n2 w2 (2 * δ) (m - 1)
 too_many_bound n1 w1 n2 w2 δ m fits fails cs code =
     elim (cases_lt (length cs) m) [
       | inl fewer ↦ omega arith
       | inr more ↦
           let first = not_too_many n1 w1 n2 w2 δ (take m cs) fits (far_take n1 w1 n2 w2 (2 * δ) m cs code) in
-          let many = ap (are_too_many n1 w1 n2 w2 δ) (length-take-le m cs more) in
+          let many = ap (are_too_many_by_squares n1 w1 n2 w2 δ) (length-take-le m cs more) in
           absurd cc
     ]

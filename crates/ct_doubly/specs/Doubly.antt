@@ -12,8 +12,8 @@ least_squares n t = n * (t / n * (t / n)) + 2 * (t / n * (t % n)) + t % n
 
 -- m words at distance 2δ are too many: each two have at most w1 + w2 - δ ones in common, so that the squares of the numbers of ones at
 -- the places add up to at most (w1 + w2)·m² - δ·m(m - 1)
-abbrev pub are_too_many : ℕ → ℕ → ℕ → ℕ → ℕ → ℕ → Bool
-are_too_many n1 w1 n2 w2 δ m = nat_lt ((w1 + w2) * (m * m)) (δ * (m * (m - 1)) + (least_squares n1 (w1 * m) + least_squares n2 (w2 * m)))
+abbrev pub are_too_many_by_squares : ℕ → ℕ → ℕ → ℕ → ℕ → ℕ → Bool
+are_too_many_by_squares n1 w1 n2 w2 δ m = nat_lt ((w1 + w2) * (m * m)) (δ * (m * (m - 1)) + (least_squares n1 (w1 * m) + least_squares n2 (w2 * m)))
 
 -- at most u, and one less than m where there is an m
 abbrev pub below_found : Option ℕ → ℕ → ℕ
@@ -25,7 +25,7 @@ below_found (Some m) u = min (m - 1) u
 abbrev pub counted_bound : ℕ → ℕ → ℕ → ℕ → ℕ → ℕ
 counted_bound n1 w1 n2 w2 d =
     if nat_lt (2 * (min w1 (n1 - w1) + min w2 (n2 - w2))) d then 1
-    else below_found (least_from (are_too_many n1 w1 n2 w2 (d / 2)) 2 (MAX_COUNTED - 1)) (min (choose n1 w1 * choose n2 w2) MAX_BOUND)
+    else below_found (least_from (are_too_many_by_squares n1 w1 n2 w2 (d / 2)) 2 (MAX_COUNTED - 1)) (min (choose n1 w1 * choose n2 w2) MAX_BOUND)
 
 -- the lesser of u and ⌊n·v / k⌋, where k of n places have a digit and v bounds the words that have it at a given one; u where k is 0
 abbrev pub shortened_bound : ℕ → ℕ → ℕ → ℕ → ℕ

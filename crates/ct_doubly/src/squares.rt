@@ -4,7 +4,7 @@ ghost use Rattle.std.specs.Prelude.{◌≡◌, ℕ, false, ◌+◌, ◌-◌, ◌
 ghost use Rattle.ct_words.specs.declared.limits.TheConstants.{MAX_N};
 ghost use Rattle.ct_johnson.specs.declared.columns.TheConstants.{MAX_COUNTED};
 ghost use Rattle.ct_johnson.specs.Bounds.{least_from};
-ghost use Rattle.ct_doubly.specs.Doubly.{are_too_many as too_many, least_squares as squares};
+ghost use Rattle.ct_doubly.specs.Doubly.{are_too_many_by_squares as too_many, least_squares as squares};
 
 use ct_johnson::MAX_COUNTED;
 

@@ -14,7 +14,7 @@ use Rattle.ct_fields.proofs.StepLemmas.{bind-at, bind-at_err, bind-cases, only_f
 use Rattle.ct_fields.proofs.EntryAnswers.{plain_entry_of-ok, plain_entry_of-from, plain_entry_of-err, plain_entry_of-fault}
 use Rattle.ct_duals.specs.declared.dual.Dual.{Dual}
 use Rattle.ct_dual_files.specs.Fields.{even_field}
-use Rattle.ct_dual_files.specs.Dual.{dual_after, dual_of}
+use Rattle.ct_dual_files.specs.Dual.{dual_after, document_dual}
 use Rattle.ct_dual_files.specs.DualDocument.{dual_fields, HasEven, StatesEven, HasDual, IsDualAnswer}
 use Rattle.ct_dual_files.proofs.DualFieldLemmas.{even-stated, even-read, even-err}
 use Rattle.ct_dual_files.proofs.AfterMark.{small_degree, HasNumbers, dual_with, IsAfter, without_multipliers, without_allowances, citing_wrong, with_other, all_right, after_mark, after_mark-from}
@@ -42,8 +42,8 @@ after_answer document e even answer of_kind states (all_right c y has last is) =
     let d = dual_with e even c y in subst (IsDualAnswer document) (sym is) (record { fields = stated document d of_kind states has; last = last })
 
 -- the answer to a document of kind dual comes where it is said to come
-dual_answer : (ms : Members) → IsOfKind (codes "dual") (table ms) → IsDualAnswer (table ms) (dual_of (table ms))
-unfolding dual_of
+dual_answer : (ms : Members) → IsOfKind (codes "dual") (table ms) → IsDualAnswer (table ms) (document_dual (table ms))
+unfolding document_dual
 dual_answer ms of_kind =
     let document = table ms in
     let P : Result Dual DocumentFault → Type 0 = IsDualAnswer document in
@@ -59,13 +59,13 @@ dual_answer ms of_kind =
     subst (λ f. P (Err f)) is (entry_answer document name first))
 
 -- a document without its entry
-without_entry : (document : Data) (name : FieldName) → IsPlainEntryFault document name → dual_of document ≡ Err (Field name)
-unfolding dual_of
+without_entry : (document : Data) (name : FieldName) → IsPlainEntryFault document name → document_dual document ≡ Err (Field name)
+unfolding document_dual
 without_entry document name first = bind-at_err (plain_entry_of document) _ (Field name) (plain_entry_of-fault document name first)
 
 -- one with its entry and a wrong mark
-without_mark : (document : Data) (e : Entry) → StatesPlainEntry document e → ((even : Bool) → ¬ (HasEven e.d document even)) → dual_of document ≡ Err (Field name.Even)
-unfolding dual_of
+without_mark : (document : Data) (e : Entry) → StatesPlainEntry document e → ((even : Bool) → ¬ (HasEven e.d document even)) → document_dual document ≡ Err (Field name.Even)
+unfolding document_dual
 without_mark document e entry none =
     bind-at (plain_entry_of document) _ e (plain_entry_of-from document e entry)
     ∙ bind-at_err (even_field e.d document) _ (Field name.Even)
@@ -73,8 +73,8 @@ without_mark document e entry none =
 
 -- one with both
 with_mark : (ms : Members) (e : Entry) (even : Bool) (answer : Result Dual DocumentFault) → StatesEven (table ms) e even → IsAfter dual_fields (table ms) e even answer
-    → dual_of (table ms) ≡ answer
-unfolding dual_of
+    → document_dual (table ms) ≡ answer
+unfolding document_dual
 with_mark ms e even answer states after =
     bind-at (plain_entry_of (table ms)) _ e (plain_entry_of-from (table ms) e states.entry)
     ∙ bind-at (even_field e.d (table ms)) _ even (even-read e.d (table ms) even states.marked)
@@ -84,7 +84,7 @@ numbers : (document : Data) (d : Dual) → HasDual document d → HasNumbers doc
 numbers document d has = record { multipliers = has.multipliers; allowances = has.allowances }
 
 -- where an answer is said to come, it comes
-pub dual_answer-from : (ms : Members) (answer : Result Dual DocumentFault) → IsDualAnswer (table ms) answer → dual_of (table ms) ≡ answer
+pub dual_answer-from : (ms : Members) (answer : Result Dual DocumentFault) → IsDualAnswer (table ms) answer → document_dual (table ms) ≡ answer
 dual_answer-from ms (Ok d) states =
     with_mark ms d.entry d.even (Ok d) states.fields.entry (all_right d.c d.y (numbers (table ms) d states.fields) states.last refl)
 dual_answer-from ms (Err (Field name.N)) first = without_entry (table ms) name.N first
@@ -106,5 +106,5 @@ dual_answer-from ms (Err (Size c)) never = absurd never
 dual_answer-from ms (Err Memory) never = absurd never
 
 -- the answer to a document of kind dual comes exactly where it is said to come
-pub dual_answers : (ms : Members) → IsOfKind (codes "dual") (table ms) → (answer : Result Dual DocumentFault) → (dual_of (table ms) ≡ answer) ↔ IsDualAnswer (table ms) answer
+pub dual_answers : (ms : Members) → IsOfKind (codes "dual") (table ms) → (answer : Result Dual DocumentFault) → (document_dual (table ms) ≡ answer) ↔ IsDualAnswer (table ms) answer
 dual_answers ms of_kind answer = (λ same. subst (IsDualAnswer (table ms)) same (dual_answer ms of_kind), dual_answer-from ms answer)

@@ -18,7 +18,7 @@ use Rattle.ct_fields.proofs.OneAnswer.{same_value}
 use Rattle.ct_duals.specs.declared.dual.Dual.{Dual}
 use Rattle.ct_duals.specs.Dual.{IsMarkOf, IsDual}
 use Rattle.ct_dual_files.specs.Fields.{even_field, odd_size_field, multipliers_field, allowances_field}
-use Rattle.ct_dual_files.specs.Dual.{dual_after, dual_of, odd_of, weighted_entry_of, johnson_dual_of, local_dual_of}
+use Rattle.ct_dual_files.specs.Dual.{dual_after, document_dual, odd_of, weighted_entry_of, johnson_dual_of, local_dual_of}
 use Rattle.ct_dual_files.specs.DualDocument.{dual_fields, johnson_dual_fields, HasEven, HasMultipliers, AreAllowances, HasAllowances, StatesEven, StatesWeightedEntry}
 use Rattle.ct_dual_files.specs.OddDocument.{odd_fields, IsOddSize}
 use Rattle.ct_dual_files.specs.LocalDocument.{local_dual_fields}
@@ -116,9 +116,9 @@ after-formed names document e even d states h =
     after_entry names document e even d (λ c y. formed_plain document (record { entry = e; even = even; c = c; y = y }) states) h
 
 -- so a document of kind dual does
-dual_of-formed : (document : Data) (d : Dual) → dual_of document ≡ Ok d → IsDual d
-unfolding dual_of
-dual_of-formed document d h =
+document_dual-formed : (document : Data) (d : Dual) → document_dual document ≡ Ok d → IsDual d
+unfolding document_dual
+document_dual-formed document d h =
     let (e, e-is, h1) = bind-ok (plain_entry_of document) _ d h in
     let (even, even-is, h2) = bind-ok (even_field e.d document) _ d h1 in
     let states : StatesEven document e even = record { entry = plain_entry_of-ok document e e-is; marked = even-stated e.d document even even-is } in
@@ -156,8 +156,8 @@ local_dual_of-formed document d h =
     (λ c y. formed_local document (record { entry = e; even = false; c = c; y = y }) (weighted-ok document e e-is) refl) h1
 
 -- so what is read has the form
-pub formed_dual : (document : Data) (r : Result Dual DocumentFault) → Reads (λ dual. dual) r (dual_of document) → IfOk r IsDual
-formed_dual document (Ok d) reads = dual_of-formed document d reads
+pub formed_dual : (document : Data) (r : Result Dual DocumentFault) → Reads (λ dual. dual) r (document_dual document) → IfOk r IsDual
+formed_dual document (Ok d) reads = document_dual-formed document d reads
 formed_dual document (Err fault) reads = tt
 
 pub formed_odd : (document : Data) (r : Result (Dual × ℕ) DocumentFault) → Reads (λ odd. odd) r (odd_of document) → IfOk r (λ odd. IsDual odd.0)

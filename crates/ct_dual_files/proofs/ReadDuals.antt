@@ -18,7 +18,7 @@ use Rattle.ct_fields.specs.declared.fault.DocumentFault.TheVariants.{Field}
 use Rattle.ct_fields.proofs.StepLemmas.{bind-at}
 use Rattle.ct_duals.specs.declared.dual.Dual.{Dual}
 use Rattle.ct_dual_files.specs.Fields.{even_field, odd_size_field, multipliers_field, allowances_field}
-use Rattle.ct_dual_files.specs.Dual.{dual_after, weighted_entry_of, dual_of, odd_of, johnson_dual_of, local_dual_of}
+use Rattle.ct_dual_files.specs.Dual.{dual_after, weighted_entry_of, document_dual, odd_of, johnson_dual_of, local_dual_of}
 
 -- what the list at a key is, where it passes the test
 abbrev chosen : {A : Type 0} → (A → Bool) → Option A → Option A
@@ -66,8 +66,8 @@ after_from e even names document c taken y allowed c-is y-is last taken-is allow
 
 -- the duals of each kind
 pub dual_from : (document : Data) (e : Entry) (even : Bool) → Ok e ≡ plain_entry_of document → Ok even ≡ even_field e.d document
-    → dual_of document ≡ dual_after e even (name.N ∷ name.D ∷ name.Even ∷ name.C ∷ name.Y ∷ []) document
-unfolding dual_of
+    → document_dual document ≡ dual_after e even (name.N ∷ name.D ∷ name.Even ∷ name.C ∷ name.Y ∷ []) document
+unfolding document_dual
 dual_from document e even entry mark =
     bind-at (plain_entry_of document) _ e (sym entry) ∙ bind-at (even_field e.d document) _ even (sym mark)
 

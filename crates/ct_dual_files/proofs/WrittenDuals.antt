@@ -16,7 +16,7 @@ use Rattle.ct_fields.proofs.CitedTables.{Alike}
 use Rattle.ct_fields.proofs.MemberLemmas.{members_depth-put}
 use Rattle.ct_duals.specs.declared.dual.Dual.{Dual}
 use Rattle.ct_duals.specs.Dual.{IsDual}
-use Rattle.ct_dual_files.specs.Dual.{dual_of, odd_of, weighted_entry_of, johnson_dual_of, local_dual_of}
+use Rattle.ct_dual_files.specs.Dual.{document_dual, odd_of, weighted_entry_of, johnson_dual_of, local_dual_of}
 use Rattle.ct_dual_files.specs.WrittenDuals.{integer_list, index_pair, pair_list, plain_table, dual_table, odd_table, weighted_table, johnson_dual_table, local_dual_table}
 use Rattle.ct_dual_files.specs.DualDocument.{dual_fields, johnson_dual_fields, HasMultipliers, HasAllowances, StatesEven, StatesDual, StatesWeightedEntry, StatesJohnsonDual}
 use Rattle.ct_dual_files.specs.OddDocument.{odd_fields, IsOddSize, StatesOddDual}
@@ -139,8 +139,8 @@ states_local_dual d form some = at d.entry.w form some
         }
 
 -- so they read back
-pub dual_of-dual_table : (d : Dual) → IsDual d → d.entry.w ≡ None → dual_of (table (dual_table d)) ≡ Ok d
-dual_of-dual_table d form plain = dual_answer-from (dual_table d) (Ok d) (states_dual d form plain)
+pub document_dual-dual_table : (d : Dual) → IsDual d → d.entry.w ≡ None → document_dual (table (dual_table d)) ≡ Ok d
+document_dual-dual_table d form plain = dual_answer-from (dual_table d) (Ok d) (states_dual d form plain)
 
 pub odd_of-odd_table : (d : Dual) (m : ℕ) → IsDual d → d.entry.w ≡ None → IsOddSize m → odd_of (table (odd_table d m)) ≡ Ok (d, m)
 odd_of-odd_table d m form plain size = odd_answer-from (odd_table d m) (Ok (d, m)) (states_odd d m form plain size)
@@ -215,8 +215,8 @@ local_dual-unformatted d = at d.entry.w
 
 -- tables that have the same at the keys of the kind, and of which the same is judged last, read as the same
 pub dual-alike : (document other : Data) → Alike document other → last_fields dual_fields other ≡ last_fields dual_fields document
-    → dual_of other ≡ dual_of document
-unfolding dual_of plain_entry_of
+    → document_dual other ≡ document_dual document
+unfolding document_dual plain_entry_of
 dual-alike document other alike last =
     rw (alike.fields name.N refl, alike.fields name.D refl, alike.fields name.Even refl, alike.fields name.C refl, alike.fields name.Y refl, last) refl
 

@@ -23,8 +23,8 @@ dual_after e even names document = do
   Ok (record { entry = e; even = even; c = c; y = y })
 
 -- the dual of a document of kind dual: n, d, even, c and y, and what stands last
-unfoldable pub dual_of : Data → Result Dual DocumentFault
-dual_of document = do
+unfoldable pub document_dual : Data → Result Dual DocumentFault
+document_dual document = do
   e ← plain_entry_of document
   even ← even_field e.d document
   dual_after e even (name.N ∷ name.D ∷ name.Even ∷ name.C ∷ name.Y ∷ []) document

@@ -4,7 +4,7 @@ ghost use Rattle.toml.specs.View.{view};
 ghost use Rattle.ct_fields.specs.Reads.{Reads};
 ghost use Rattle.ct_duals.specs.Dual.{IsDual};
 ghost use Rattle.ct_words.specs.Entry.{IsEntry};
-ghost use Rattle.ct_dual_files.specs.Dual.{dual_after, dual_of, odd_of, johnson_dual_of, local_dual_of};
+ghost use Rattle.ct_dual_files.specs.Dual.{dual_after, document_dual, odd_of, johnson_dual_of, local_dual_of};
 ghost use Rattle.ct_dual_files.specs.OddDocument.{IsOddSize};
 
 use crate::entries::{plain_entry_field, weighted_entry_field};
@@ -17,15 +17,15 @@ use toml::Value;
 
 /// The dual that the document states, of kind dual; it has the form of one.
 pub fn dual_of(alloc: Global, document: &Value) -> Result<Dual, DocumentFault>
-    ensures reads { Reads (λ dual. dual) result (dual_of (view document.now)) }
+    ensures reads { Reads (λ dual. dual) result (document_dual (view document.now)) }
     ensures form { IfOk result IsDual }
 {
     read_dual(alloc, document)
 }
 
-#[tactic(auto, unfolding(crate::specs::Dual::dual_of))]
+#[tactic(auto, unfolding(crate::specs::Dual::document_dual))]
 fn read_dual(alloc: Global, document: &Value) -> Result<Dual, DocumentFault>
-    ensures { Reads (λ dual. dual) result (dual_of (view document.now)) }
+    ensures { Reads (λ dual. dual) result (document_dual (view document.now)) }
 {
     let entry = plain_entry_field(document)?;
     let even = even_field(entry.d, document)?;

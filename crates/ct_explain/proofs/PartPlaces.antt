@@ -7,7 +7,7 @@ use Rattle.std.proofs.lemmas.List.Elements.{All-nil, All-cons, All-contains, Con
 use Rattle.std.proofs.lemmas.List.{take_more, length-take-le}
 use Rattle.std.proofs.lemmas.Option.{slice_get-map}
 use Rattle.ct_derive.specs.Pieces.{AreEarlier}
-use Rattle.ct_files.specs.ByKind.{parts_of, names}
+use Rattle.ct_files.specs.ByKind.{ids_of_parts, names}
 use Rattle.ct_piece.specs.Piece.{PieceValue}
 use Rattle.ct_piece.specs.Standing.{AreStanding}
 use Rattle.ct_piece.proofs.EarlierParts.{part_earlier}
@@ -53,7 +53,7 @@ place_passed test xs i x within is fails =
     ∙ append-nil (places_where test 0 (take i xs)))
 
 -- a piece without parts names none of the pieces
-pub no_places : (p : PieceValue) (k : ℕ) (ps : List PieceValue) → parts_of p.evidence ≡ [] → places_where (λ q. names p.evidence q.id) k ps ≡ []
+pub no_places : (p : PieceValue) (k : ℕ) (ps : List PieceValue) → ids_of_parts p.evidence ≡ [] → places_where (λ q. names p.evidence q.id) k ps ≡ []
 no_places p k [] none = refl
 no_places p k (q ∷ ps) none =
     let passed : names p.evidence q.id ≡ false = ap (list_any (λ part. bytes_eq part q.id)) none in

@@ -5,7 +5,7 @@ use Rattle.toml.specs.Data.{table, Members}
 use Rattle.ct_fields.specs.Tables.{IsOfKind}
 use Rattle.ct_fields.specs.declared.fault.DocumentFault.{DocumentFault}
 use Rattle.ct_fields.proofs.StepLemmas.{bind-at, bind-at_err, bind-cases}
-use Rattle.ct_dual_files.specs.Dual.{dual_of, johnson_dual_of, odd_of, local_dual_of}
+use Rattle.ct_dual_files.specs.Dual.{document_dual, johnson_dual_of, odd_of, local_dual_of}
 use Rattle.ct_dual_files.proofs.DualAnswers.{dual_answers, dual_answer-from}
 use Rattle.ct_dual_files.proofs.JohnsonDualAnswers.{johnson_dual_answers, johnson_dual_answer-from}
 use Rattle.ct_dual_files.proofs.OddAnswers.{odd_answers, odd_answer-from}
@@ -18,13 +18,13 @@ use Rattle.ct_files.specs.DualAnswer.{IsDualEvidence, IsJohnsonDualEvidence, IsO
 -- the answer to a document of kind dual comes where it is said to come
 pub dual_evidence : (ms : Members) → IsOfKind (codes "dual") (table ms) → IsDualEvidence (table ms) (dual_evidence_of (table ms))
 dual_evidence ms of_kind =
-    bind-cases (IsDualEvidence (table ms)) (dual_of (table ms)) (λ d. Ok (evidence.Dual d)) (λ d is. (dual_answers ms of_kind (Ok d)).0 is)
+    bind-cases (IsDualEvidence (table ms)) (document_dual (table ms)) (λ d. Ok (evidence.Dual d)) (λ d is. (dual_answers ms of_kind (Ok d)).0 is)
     (λ fault is. (dual_answers ms of_kind (Err fault)).0 is)
 
 pub dual_evidence-from : (ms : Members) (answer : Result Evidence DocumentFault) → IsDualEvidence (table ms) answer → dual_evidence_of (table ms) ≡ answer
-dual_evidence-from ms (Ok (evidence.Dual d)) states = bind-at (dual_of (table ms)) (λ d. Ok (evidence.Dual d)) d (dual_answer-from ms (Ok d) states)
+dual_evidence-from ms (Ok (evidence.Dual d)) states = bind-at (document_dual (table ms)) (λ d. Ok (evidence.Dual d)) d (dual_answer-from ms (Ok d) states)
 dual_evidence-from ms (Ok other) never = absurd never
-dual_evidence-from ms (Err fault) wrong = bind-at_err (dual_of (table ms)) (λ d. Ok (evidence.Dual d)) fault (dual_answer-from ms (Err fault) wrong)
+dual_evidence-from ms (Err fault) wrong = bind-at_err (document_dual (table ms)) (λ d. Ok (evidence.Dual d)) fault (dual_answer-from ms (Err fault) wrong)
 
 pub dual_evidences : (ms : Members) → IsOfKind (codes "dual") (table ms) → (answer : Result Evidence DocumentFault)
     → (dual_evidence_of (table ms) ≡ answer) ↔ IsDualEvidence (table ms) answer

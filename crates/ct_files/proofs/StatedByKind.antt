@@ -18,7 +18,7 @@ use Rattle.ct_partition_files.proofs.PartitionKind.{partition_states}
 use Rattle.ct_partition_files.proofs.ProductKind.{product_states}
 use Rattle.ct_build_files.proofs.BuildKind.{build_states}
 use Rattle.ct_dual_files.proofs.DualKind.{dual_states, odd_states, local_states}
-use Rattle.ct_files.specs.ByKind.{kind_of, stated_entry, parts_of, own_reason, words_over, evidence_reason, IsChecked}
+use Rattle.ct_files.specs.ByKind.{kind_of, stated_entry, ids_of_parts, own_reason, words_over, evidence_reason, IsChecked}
 use Rattle.ct_files.specs.Evidence.{IsSound}
 
 -- evidence that its kind's own check finds nothing against states what its kind should
@@ -32,13 +32,13 @@ pub record IsRight (known : List NamedCode) (evidence : Evidence) : Type 0 where
 
 -- so its kind's own check finds nothing
 pub right-own : (known : List NamedCode) (evidence : Evidence) → IsRight known evidence → own_reason known evidence ≡ None
-right-own known evidence h = (first_of-None (option_map fault.NoSuch (first_missing known (parts_of evidence))) (own_reason known evidence) h.faultless).1
+right-own known evidence h = (first_of-None (option_map fault.NoSuch (first_missing known (ids_of_parts evidence))) (own_reason known evidence) h.faultless).1
 
 -- and its parts are known
-pub right-parts : (known : List NamedCode) (evidence : Evidence) → IsRight known evidence → first_missing known (parts_of evidence) ≡ None
+pub right-parts : (known : List NamedCode) (evidence : Evidence) → IsRight known evidence → first_missing known (ids_of_parts evidence) ≡ None
 right-parts known evidence h =
-    option_map-none fault.NoSuch (first_missing known (parts_of evidence))
-    (first_of-None (option_map fault.NoSuch (first_missing known (parts_of evidence))) (own_reason known evidence) h.faultless).0
+    option_map-none fault.NoSuch (first_missing known (ids_of_parts evidence))
+    (first_of-None (option_map fault.NoSuch (first_missing known (ids_of_parts evidence))) (own_reason known evidence) h.faultless).0
 
 -- evidence that its kind's own check finds nothing against states what it should
 pub own_states : (known : List NamedCode) (evidence : Evidence) → AreSound known → IsSound evidence → own_reason known evidence ≡ None → StatesCode known evidence

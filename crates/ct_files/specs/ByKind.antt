@@ -37,12 +37,12 @@ abbrev pub stated_entry : Evidence → Entry
 stated_entry evidence = (kind_of evidence).entry
 
 -- the ids of the pieces that evidence names as its parts, in the order of its document
-abbrev pub parts_of : Evidence → List (List ℕ)
-parts_of evidence = (kind_of evidence).parts
+abbrev pub ids_of_parts : Evidence → List (List ℕ)
+ids_of_parts evidence = (kind_of evidence).parts
 
 -- whether evidence names the piece of this id as a part of its own
 abbrev pub names : Evidence → List ℕ → Bool
-names evidence id = list_any (λ part. bytes_eq part id) (parts_of evidence)
+names evidence id = list_any (λ part. bytes_eq part id) (ids_of_parts evidence)
 
 -- whether the kind of the evidence has a code
 abbrev pub has_code : Evidence → Bool

@@ -12,7 +12,7 @@ use Rattle.ct_word_files.specs.Cosets.{cosets_evidence_of}
 use Rattle.ct_partition_files.specs.Partition.{partition_evidence_of}
 use Rattle.ct_partition_files.specs.Product.{product_evidence_of}
 use Rattle.ct_build_files.specs.Build.{build_evidence_of}
-use Rattle.ct_dual_files.specs.Dual.{dual_of, johnson_dual_of, odd_of, local_dual_of}
+use Rattle.ct_dual_files.specs.Dual.{document_dual, johnson_dual_of, odd_of, local_dual_of}
 use Rattle.ct_files.specs.declared.kind.Kind.{Kind}
 use Rattle.ct_files.specs.declared.kind.Kind.TheVariants.{Words, Cosets, Partition, Build, Product, Dual, JohnsonDual, Odd, JohnsonLocal}
 
@@ -57,7 +57,7 @@ kind_in document =
 -- the evidence of a document of kind dual
 abbrev pub dual_evidence_of : Data → Result Evidence DocumentFault
 dual_evidence_of document = do
-  d ← dual_of document
+  d ← document_dual document
   Ok (evidence.Dual d)
 
 -- the evidence of a document of kind jdual

@@ -3,7 +3,7 @@
 ghost use Rattle.std.specs.Prelude.{◌≡◌, ◌↔◌, ◌||◌, [], false};
 ghost use Rattle.std.specs.List.{list_any};
 ghost use Rattle.std.specs.Option.{option_to_list};
-ghost use Rattle.ct_files.specs.ByKind.{parts_of};
+ghost use Rattle.ct_files.specs.ByKind.{ids_of_parts};
 ghost use Rattle.ct_files.specs.PartNames.{has_name};
 
 use ct_kind::Evidence;
@@ -12,7 +12,7 @@ use std::collections::HashSet;
 
 /// Whether the evidence names a part.
 pub fn has_parts(evidence: &Evidence) -> bool
-    ensures { (result ≡ false) ↔ (parts_of evidence.now ≡ []) }
+    ensures { (result ≡ false) ↔ (ids_of_parts evidence.now ≡ []) }
 {
     match evidence {
         Evidence::Build { .. } => true,
@@ -49,7 +49,7 @@ fn has_of_pairs<'a>(names: &HashSet<&'a [u8]>, pairs: &'a [(Id, Id)]) -> bool
 
 /// Whether the set has one of the parts that the evidence names: `names` holds ids as texts.
 pub fn has_part<'a>(names: &HashSet<&'a [u8]>, evidence: &'a Evidence) -> bool
-    ensures { result ≡ list_any (has_name names.now) (parts_of evidence.now) }
+    ensures { result ≡ list_any (has_name names.now) (ids_of_parts evidence.now) }
 {
     match evidence {
         Evidence::Build { part, other, .. } => has(names, part) || has_other(names, other),

@@ -6,8 +6,8 @@ ghost use Rattle.ct_words.specs.Entry.{IsEntry, constant_weight};
 ghost use Rattle.ct_johnson.specs.Bounds.{are_too_many as too_many, column_count_value, IsLeastTooMany, NoneTooMany};
 ghost use Rattle.ct_words.specs.declared.limits.TheConstants.{MAX_N};
 
-/// The greatest number of words that is counted, 1,000. No entry of the table needs more than 211, which (30,14,11) has and its
-/// complement (30,14,19): each limit from there on gives the same bounds, and this one is far from any of them.
+/// The greatest number of words that is counted, 1,000. It suffices, with little room: the greatest least number of words that is too
+/// many is 937 for the doubly constant bound, at (13,5,12,5,12), and 211 for Johnson's, at (30,14,11) and its complement.
 pub const MAX_COUNTED: u32 = 1000;
 
 /// The least number of words, from 2 to `MAX_COUNTED`, that is too many for the entry (n,d,w) of the table; so A(n,d,w)

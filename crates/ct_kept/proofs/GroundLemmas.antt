@@ -25,7 +25,7 @@ use Rattle.ct_rule_parts.proofs.SlotLemmas.{IsNoBetter-self}
 use Rattle.ct_rules.specs.declared.rule.Rule.{Rule}
 use Rattle.ct_rules.specs.declared.rule.Rule.TheVariants.{L2, M2, M9, U1, U2, U3, V1, V2, V8}
 use Rattle.ct_rules.specs.Derivation.{LineValue, Follows, claims_at}
-use Rattle.ct_rules.specs.Rule.{row_of, rule_side, place_of, support_at, parts_of, parts_over, premises_at, premises_of, value_of}
+use Rattle.ct_rules.specs.Rule.{row_of, rule_side, named_place, support_at, parts_of, parts_over, premises_at, premises_of, value_of}
 use Rattle.ct_rules.proofs.Applied.{applies_from_value, value-given, limit_of, cited-stands}
 use Rattle.ct_rules.proofs.ClosedBounds.{no_better-trans}
 use Rattle.ct_rules.proofs.RuleLaws.{value_is_sound}
@@ -33,7 +33,7 @@ use Rattle.ct_kept.specs.Kept.{RestsOnNothing, IsGroundBound, IsGround}
 use Rattle.ct_kept.specs.Inside.Ground.{class_of, GivesGround, IsGroundWithin, first_ground_rule, other_ground_rules, IsGroundLine}
 
 -- a rule without a support is made of the same over any supports, rests on the same, and gives the same
-parts_same : (supports : List Support) (r : Rule) → place_of r ≡ None → parts_over supports r ≡ parts_of r None
+parts_same : (supports : List Support) (r : Rule) → named_place r ≡ None → parts_over supports r ≡ parts_of r None
 parts_same supports r none = ap (λ (place : Option ℕ). parts_of r (support_at supports place)) none
 
 pub rests_same : (supports : List Support) (r : Rule) (e : Entry) → RestsOnNothing r e → premises_at supports r e ≡ []

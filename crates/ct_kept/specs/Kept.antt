@@ -6,7 +6,7 @@ use Rattle.ct_rule_parts.specs.declared.support.Support.{Support}
 use Rattle.ct_rule_parts.specs.Slot.{IsBetter, IsNoBetter, Slot, slot_of, claim_at}
 use Rattle.ct_rules.specs.declared.rule.Rule.{Rule}
 use Rattle.ct_rules.specs.Derivation.{LineValue, IsDerivation}
-use Rattle.ct_rules.specs.Rule.{rule_side, place_of, parts_of, value_of}
+use Rattle.ct_rules.specs.Rule.{rule_side, named_place, parts_of, value_of}
 use Rattle.ct_slots.specs.Number.{slot_number, bound_of, side_size}
 
 -- what a table keeps, as callers see it: bounds and reasons by the numbers of the slots, lines, and how many of these rest on no support
@@ -53,7 +53,7 @@ with_line_put kept line = record {
 
 -- a rule rests on nothing at an entry: on no support and on no bound
 abbrev pub RestsOnNothing : Rule → Entry → Type 0
-RestsOnNothing r e = (place_of r ≡ None) × ((parts_of r None).rests_on e ≡ [])
+RestsOnNothing r e = (named_place r ≡ None) × ((parts_of r None).rests_on e ≡ [])
 
 -- no rule that rests on nothing gives a better bound of the slot
 abbrev pub IsGroundBound : Slot → ℕ → Type 0
@@ -62,7 +62,7 @@ IsGroundBound s v = (r : Rule) (u : ℕ) → rule_side r ≡ s.0 → RestsOnNoth
 -- a line that rests on no line and on no support, and whose bound no rule that rests on nothing betters
 pub record IsGround (line : LineValue) : Type 0 where
   pub no_lines : line.from ≡ []
-  pub no_support : place_of line.rule ≡ None
+  pub no_support : named_place line.rule ≡ None
   pub best : IsGroundBound (slot_of line.claim) line.claim.value
 
 -- two lines at different places bound one slot: the later does it better

@@ -8,7 +8,7 @@ ghost use Rattle.ct_rule_parts.specs.declared.support.Support.{Support};
 ghost use Rattle.ct_rule_parts.specs.Slot.{slot_of};
 ghost use Rattle.ct_slots.specs.Number.{bound_of, distances, entries_to, even_distances, side_number, side_size, slot_number};
 ghost use Rattle.ct_kept.specs.Kept.{with_line_put, reason_of, set_back, IsKept};
-ghost use Rattle.ct_rules.specs.Rule.{place_of};
+ghost use Rattle.ct_rules.specs.Rule.{named_place};
 ghost use Rattle.ct_rules.specs.Removal.{names_one, marked, lowered_line};
 ghost use Rattle.ct_kept.specs.Inside.Ground.{AreLargest};
 ghost use Rattle.ct_kept.specs.Inside.Started.{IsStarted};
@@ -276,7 +276,7 @@ impl Kept {
 
     /// Whether the rule of a line after those of the base names a support at a marked place.
     pub fn names(&self, gone: &[bool]) -> bool
-        ensures { (result ≡ false) ↔ All (λ l. names_one (marked gone.now) (place_of l.rule) ≡ false) (drop self.now.base self.now.lines) }
+        ensures { (result ≡ false) ↔ All (λ l. names_one (marked gone.now) (named_place l.rule) ≡ false) (drop self.now.base self.now.lines) }
     {
         names_place(&self.later, gone)
     }

@@ -2,7 +2,7 @@
 
 ghost use Rattle.std.specs.Prelude.{◌≡◌, ◌↔◌, false, All, map};
 ghost use Rattle.ct_rules.specs.Derivation.{LineValue};
-ghost use Rattle.ct_rules.specs.Rule.{place_of};
+ghost use Rattle.ct_rules.specs.Rule.{named_place};
 ghost use Rattle.ct_rules.specs.Removal.{names_one, marked, lowered_line};
 
 use ct_rules::{Line, lowered, names_one};
@@ -18,7 +18,7 @@ pub(crate) fn lower_lines(lines: &mut [Line], gone: &[bool])
 
 /// Whether the rule of a line names a support at a marked place.
 pub(crate) fn names_place(lines: &[Line], gone: &[bool]) -> bool
-    ensures { (result ≡ false) ↔ All (λ (l : LineValue). names_one (marked gone.now) (place_of l.rule) ≡ false) lines.now }
+    ensures { (result ≡ false) ↔ All (λ (l : LineValue). names_one (marked gone.now) (named_place l.rule) ≡ false) lines.now }
 {
     for line in lines {
         if names_one(gone, line.rule) {

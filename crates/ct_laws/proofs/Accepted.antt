@@ -11,7 +11,7 @@ use Rattle.ct_fields.specs.declared.document.TheConstants.{MAX_DOCUMENT}
 use Rattle.ct_files.specs.Document.{document_read_of}
 use Rattle.ct_files.proofs.Documents.{document_read_of-right}
 use Rattle.ct_kind.specs.Named.{is_known, first_missing}
-use Rattle.ct_files.specs.ByKind.{stated_entry, parts_of, own_reason, words_over}
+use Rattle.ct_files.specs.ByKind.{stated_entry, ids_of_parts, own_reason, words_over}
 use Rattle.ct_piece.specs.Piece.{PieceValue, has_id}
 use Rattle.ct_piece.specs.Codes.{codes_of}
 use Rattle.ct_piece.specs.Submission.{piece_of, made_unless, piece_from, submitted, IsAccepted}
@@ -87,7 +87,7 @@ accepted_from pieces id document p standing w =
       room = w.room;
       stated = m.stated;
       read = m.is;
-      parts = parts_stand pieces (parts_of m.stated.evidence) (right-parts known m.stated.evidence right);
+      parts = parts_stand pieces (ids_of_parts m.stated.evidence) (right-parts known m.stated.evidence right);
       checked = states.checked;
       code = only-code (stated_entry m.stated.evidence) (words_over known m.stated.evidence) states.code;
       small = w.small;
@@ -99,7 +99,7 @@ made_from pieces id document p h =
     let known = codes_of pieces in
     let q = piece_of known id document h.stated in
     let own = no_own_reason known h.stated.evidence (document_read_of-right document h.stated h.read).0 h.checked in
-    let none = ap (λ (o : Option (List ℕ)). first_of (option_map fault.NoSuch o) (own_reason known h.stated.evidence)) (parts_known pieces (parts_of h.stated.evidence) h.parts) ∙ own in
+    let none = ap (λ (o : Option (List ℕ)). first_of (option_map fault.NoSuch o) (own_reason known h.stated.evidence)) (parts_known pieces (ids_of_parts h.stated.evidence) h.parts) ∙ own in
     let made = ap (piece_from known id document) h.read ∙ ap (λ (reason : Option SubmitFault). made_unless reason q) none ∙ ap Ok (sym h.piece) in
     submitted-from pieces id document p (record { free = not_taken id pieces h.free; room = h.room; made = made; small = h.small })
 

@@ -27,7 +27,7 @@ use Rattle.ct_kind.specs.Named.{NamedCode}
 use Rattle.ct_piece.specs.Piece.{PieceValue, has_id, first_user, stored_by}
 use Rattle.ct_piece.specs.Codes.{codes_of}
 use Rattle.ct_piece.specs.Submission.{piece_from, submitted, with_piece}
-use Rattle.ct_piece.specs.Withdrawal.{without, withdrawn, unless_used, taken_along, is_among, without_all, withdrawn_all, left_by}
+use Rattle.ct_piece.specs.Withdrawal.{without, withdrawn, unless_used, taken_along, is_id_among, without_all, withdrawn_all, left_by}
 use Rattle.ct_piece.specs.Standing.{AreStanding, IsMade}
 use Rattle.ct_piece.specs.Dump.{piece_dump, dump_text}
 use Rattle.ct_kind.specs.declared.fault.SubmitFault.{SubmitFault}
@@ -192,7 +192,7 @@ withdrawn_all-short : (pieces : List PieceValue) (id : List ℕ) → AreShort pi
 unfolding withdrawn_all
 withdrawn_all-short pieces id h =
     withdrawn-cases (has_id id pieces) (Ok (without_all (taken_along pieces id) pieces)) withdraw.NoSuch pieces h
-    (All-filter (λ (q : PieceValue). not (is_among (taken_along pieces id) q.id)) (λ (q : PieceValue). length q.document ≤ MAX_DOCUMENT) pieces h)
+    (All-filter (λ (q : PieceValue). not (is_id_among (taken_along pieces id) q.id)) (λ (q : PieceValue). length q.document ≤ MAX_DOCUMENT) pieces h)
 
 -- so does each command
 pub pieces_after-short : (pieces : List PieceValue) (c : Command) → AreShort pieces → AreShort (pieces_after pieces c)

@@ -10,10 +10,10 @@ use Rattle.ct_io.proofs.LinesLemmas.{lines_of-next}
 use Rattle.ct_rules.specs.declared.rule.Rule.{Rule}
 use Rattle.ct_rules.specs.declared.arguments.Arguments.{Arguments}
 use Rattle.ct_rules.specs.declared.arguments.Arguments.TheVariants.{Nothing, Number, Numbers, Place}
-use Rattle.ct_rules.specs.Rule.{place_of, arguments_of, bare}
+use Rattle.ct_rules.specs.Rule.{named_place, arguments_of, bare}
 use Rattle.ct_rules.proofs.RuleNames.{place_among, place_is, bare-placed}
 use Rattle.ct_rules.specs.Derivation.{LineValue, Follows}
-use Rattle.ct_piece.specs.Piece.{PieceValue, place_of as piece_place}
+use Rattle.ct_piece.specs.Piece.{PieceValue, place_of_id as piece_place}
 use Rattle.ct_piece.specs.Supports.{supports_of}
 use Rattle.ct_derive.specs.Check.{line_by, numbers_at}
 use Rattle.ct_derive.specs.Text.{lines_text}
@@ -48,7 +48,7 @@ next_verified r next text texts step rest k =
 -- the pieces with these ids have these new places
 abbrev pub HasNewPlace : List (List ℕ) → List PieceValue → List ℕ → Rule → Type 0
 HasNewPlace ids printed places r =
-    (p : ℕ) → place_of r ≡ Some p → piece_place (unwrap_or (slice_get ids p) []) printed ≡ Some (new_place places p)
+    (p : ℕ) → named_place r ≡ Some p → piece_place (unwrap_or (slice_get ids p) []) printed ≡ Some (new_place places p)
 
 -- a rule that is stated is the moved rule, where its arguments are these
 resolved_as : (ids : List (List ℕ)) (printed : List PieceValue) (places : List ℕ) (r : Rule) (arguments : Arguments) → arguments_of r ≡ arguments

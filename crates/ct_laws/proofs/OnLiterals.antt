@@ -14,10 +14,10 @@ use Rattle.ct_partition_files.specs.Product.{product_evidence_of}
 use Rattle.ct_build_files.specs.Operation.{operation_named}
 use Rattle.ct_build_files.specs.BuildFields.{digits_of, step_fields}
 use Rattle.ct_build_files.specs.Build.{build_evidence_of}
-use Rattle.ct_dual_files.specs.Dual.{dual_of, odd_of, weighted_entry_of, johnson_dual_of, local_dual_of}
+use Rattle.ct_dual_files.specs.Dual.{document_dual, odd_of, weighted_entry_of, johnson_dual_of, local_dual_of}
 use Rattle.ct_files.specs.Evidence.{evidence_of, read_without_limit, read_of}
 use Rattle.ct_files.specs.Document.{document_of, document_without_limit, document_read_of}
 
 unfoldable pub evidence_on_literals : ⊤
-unfolding toml_on_literals chars is_utf8 word_of table_of entry_of plain_entry_of last_fields build_entry_of words_evidence_of cosets_evidence_of partition_evidence_of product_evidence_of operation_named digits_of step_fields build_evidence_of dual_of odd_of weighted_entry_of johnson_dual_of local_dual_of evidence_of read_without_limit read_of document_of document_without_limit document_read_of
+unfolding toml_on_literals chars is_utf8 word_of table_of entry_of plain_entry_of last_fields build_entry_of words_evidence_of cosets_evidence_of partition_evidence_of product_evidence_of operation_named digits_of step_fields build_evidence_of document_dual odd_of weighted_entry_of johnson_dual_of local_dual_of evidence_of read_without_limit read_of document_of document_without_limit document_read_of
 evidence_on_literals = tt

@@ -5,7 +5,7 @@ use Rattle.ct_words.specs.declared.entry.Entry.{Entry}
 use Rattle.ct_words.specs.declared.claim.Side.{Side}
 use Rattle.ct_rule_parts.specs.Slot.{claim_at}
 use Rattle.ct_rules.specs.declared.rule.Rule.{Rule}
-use Rattle.ct_rules.specs.Rule.{place_of}
+use Rattle.ct_rules.specs.Rule.{named_place}
 use Rattle.ct_rules.specs.Derivation.{LineValue, Follows, IsBest}
 use Rattle.ct_rules.proofs.Derivations.{derivation-nil, derivation-push}
 use Rattle.ct_derive.specs.Derivation.{DerivationValue}
@@ -21,7 +21,7 @@ lone_line side e v r = record { claim = claim_at (side, e) v; rule = r; from = [
 abbrev pub lone : Side → Entry → ℕ → Rule → DerivationValue
 lone side e v r = record { pieces = []; lines = lone_line side e v r ∷ [] }
 
-never_needed : (l : LineValue) (p : ℕ) → place_of l.rule ≡ None → IsNeeded [] (l ∷ []) p → ⊥
+never_needed : (l : LineValue) (p : ℕ) → named_place l.rule ≡ None → IsNeeded [] (l ∷ []) p → ⊥
 never_needed l p none (by_line q has) =
     let within = has.1 in
     let empty : length (cited_places (l ∷ [])) ≡ 0 = ap (λ (o : Option ℕ). length (cons_option o [])) none in
@@ -29,7 +29,7 @@ never_needed l p none (by_line q has) =
 never_needed l p none (by_piece q r needed has) = never_needed l q none needed
 
 -- it explains the bound, where this is the best
-pub lone_explains : (side : Side) (e : Entry) (v : ℕ) (r : Rule) → place_of r ≡ None → IsBest [] (side, e) v → Follows [] [] (lone_line side e v r)
+pub lone_explains : (side : Side) (e : Entry) (v : ℕ) (r : Rule) → named_place r ≡ None → IsBest [] (side, e) v → Follows [] [] (lone_line side e v r)
     → ExplainsBest [] side e (lone side e v r)
 lone_explains side e v r none best follows = record {
   value = v;

@@ -11,7 +11,7 @@ use Rattle.ct_classes.specs.declared.fault.PartitionFault.{PartitionFault}
 use Rattle.ct_classes.specs.declared.fault.PartitionFault.TheVariants as partition
 use Rattle.ct_classes.specs.declared.fault.TheConstants.{MAX_CLASSES}
 use Rattle.ct_classes.specs.Partition.{words_of_classes}
-use Rattle.ct_partitions.specs.Check.{class_at, counted, need, distance_at, is_close, wrong_count, size_fault, weight_fault, repeated_fault, close_fault, partition_fault}
+use Rattle.ct_partitions.specs.Check.{class_at, counted, need, distance_at, is_close, wrong_count, partition_size_fault, partition_weight_fault, partition_repeated_fault, partition_close_fault, partition_fault}
 use Rattle.ct_laws.specs.Weights.{HaveWeight, IsFirstOfOtherWeight}
 use Rattle.ct_kind.specs.Named.{NamedCode}
 use Rattle.ct_kind.specs.declared.fault.SubmitFault.{SubmitFault}
@@ -131,11 +131,11 @@ unfolding partition_fault
 says-classes e between classes =
     let words = words_of_classes classes in
     says-also
-    (says-first (size_fault classes) (first_of (weight_fault e.n e.w words) (first_of (repeated_fault words) (close_fault e.n e.d between classes)))
+    (says-first (partition_size_fault classes) (first_of (partition_weight_fault e.n e.w words) (first_of (partition_repeated_fault words) (partition_close_fault e.n e.d between classes)))
     (says-map partition.Size (wrong_count classes) (says-counts classes))
-    (says-first (weight_fault e.n e.w words) (first_of (repeated_fault words) (close_fault e.n e.d between classes))
-    (says-weight e words partition.Weight (λ (w : Option ℕ). weight_fault e.n w words) refl (λ w. refl))
-    (says-first (repeated_fault words) (close_fault e.n e.d between classes)
+    (says-first (partition_weight_fault e.n e.w words) (first_of (partition_repeated_fault words) (partition_close_fault e.n e.d between classes))
+    (says-weight e words partition.Weight (λ (w : Option ℕ). partition_weight_fault e.n w words) refl (λ w. refl))
+    (says-first (partition_repeated_fault words) (partition_close_fault e.n e.d between classes)
     (says-map (λ (p : ℕ × ℕ). partition.Repeated p.0 p.1) (least_pair (λ x y. x == y) words) (says-pair (λ x y. x == y) words))
     (says-map (close_of e between classes) (least_pair (is_close e.n e.d between classes) (all_places (length words)))
     (says-pair (is_close e.n e.d between classes) (all_places (length words)))))))

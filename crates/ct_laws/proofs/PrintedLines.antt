@@ -10,9 +10,9 @@ use Rattle.ct_words.specs.declared.claim.Claim.{Claim}
 use Rattle.ct_rule_parts.specs.declared.support.Support.{Support}
 use Rattle.ct_rule_parts.specs.Slot.{slot_of}
 use Rattle.ct_rules.specs.declared.rule.Rule.{Rule}
-use Rattle.ct_rules.specs.Rule.{place_of, with_place, support_at, cited, parts_of, value_of}
+use Rattle.ct_rules.specs.Rule.{named_place, with_place, support_at, cited, parts_of, value_of}
 use Rattle.ct_rules.specs.Derivation.{LineValue, claims_at, Follows}
-use Rattle.ct_rules.proofs.LawfulRows.{place_of-placed, parts_of-placed}
+use Rattle.ct_rules.proofs.LawfulRows.{named_place-placed, parts_of-placed}
 use Rattle.ct_rules.proofs.LoweredRules.{IsAlike, alike-side, premises_of-alike, value_of-alike}
 
 -- whether the place is one of these
@@ -35,7 +35,7 @@ moved_by places r None = r
 moved_by places r (Some place) = with_place r (new_place places place)
 
 abbrev pub moved_rule : List ℕ → Rule → Rule
-moved_rule places r = moved_by places r (place_of r)
+moved_rule places r = moved_by places r (named_place r)
 
 abbrev pub moved_line : List ℕ → LineValue → LineValue
 moved_line places l = record { claim = l.claim; rule = moved_rule places l.rule; from = l.from }
@@ -94,23 +94,23 @@ moved_item {X} xs (q ∷ places) p there among =
 
 -- a moved rule says what the rule said
 pub IsAlike-moved : (places : List ℕ) (r : Rule) → IsAlike (moved_rule places r) r
-IsAlike-moved places r c = go (place_of r) where
+IsAlike-moved places r c = go (named_place r) where
   go : (place : Option ℕ) → parts_of (moved_by places r place) c ≡ parts_of r c
   go None = refl
   go (Some place) = parts_of-placed r (new_place places place) c
 
 -- the piece that a rule names is among those at these places
 abbrev pub NamesOne : List ℕ → Rule → Type 0
-NamesOne places r = (p : ℕ) → place_of r ≡ Some p → is_among places p ≡ true
+NamesOne places r = (p : ℕ) → named_place r ≡ Some p → is_among places p ≡ true
 
 -- and names the support that it named
 pub cited-moved : (supports : List Support) (places : List ℕ) (r : Rule) → AreThere supports places → NamesOne places r
     → cited (items_at supports places) (moved_rule places r) ≡ cited supports r
-cited-moved supports places r there names = go (place_of r) refl where
-  go : (place : Option ℕ) → place_of r ≡ place → support_at (items_at supports places) (place_of (moved_by places r place)) ≡ support_at supports place
+cited-moved supports places r there names = go (named_place r) refl where
+  go : (place : Option ℕ) → named_place r ≡ place → support_at (items_at supports places) (named_place (moved_by places r place)) ≡ support_at supports place
   go None is = ap (support_at (items_at supports places)) is
   go (Some p) is =
-      ap (support_at (items_at supports places)) (place_of-placed r p (new_place places p) is)
+      ap (support_at (items_at supports places)) (named_place-placed r p (new_place places p) is)
       ∙ moved_item supports places p there (names p is)
 
 claim-moved : (places : List ℕ) (o : Option LineValue) → option_map (λ l. l.claim) (option_map (moved_line places) o) ≡ option_map (λ l. l.claim) o

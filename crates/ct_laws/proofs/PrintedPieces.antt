@@ -12,8 +12,8 @@ use Rattle.std.proofs.lemmas.Option.{slice_get-map, slice_get_within, get_or_fro
 use Rattle.std.proofs.lemmas.Slice.Eq.{bytes_eq-Decides}
 use Rattle.ct_rule_parts.specs.declared.support.Support.{Support}
 use Rattle.ct_rules.specs.Derivation.{LineValue, IsDerivation}
-use Rattle.ct_files.specs.ByKind.{parts_of, names}
-use Rattle.ct_piece.specs.Piece.{PieceValue, place_of as piece_place}
+use Rattle.ct_files.specs.ByKind.{ids_of_parts, names}
+use Rattle.ct_piece.specs.Piece.{PieceValue, place_of_id as piece_place}
 use Rattle.ct_piece.specs.Standing.{AreStanding}
 use Rattle.ct_piece.specs.Supports.{support_of, supports_of}
 use Rattle.ct_piece.proofs.StandingLemmas.{AreStanding-passing}
@@ -244,7 +244,7 @@ supports_there pieces places there k d within =
 
 -- a part of a needed piece is needed
 passed_at : (pieces : List PieceValue) (lines : List LineValue) (places : List ℕ) → AreStanding pieces → AreNeeded (parts_of_each pieces) lines places
-    → (i : ℕ) (p : PieceValue) → slice_get pieces i ≡ Some p → needs pieces places p.id ≡ true → AllPassed (needs pieces places) (parts_of p.evidence)
+    → (i : ℕ) (p : PieceValue) → slice_get pieces i ≡ Some p → needs pieces places p.id ≡ true → AllPassed (needs pieces places) (ids_of_parts p.evidence)
 passed_at pieces lines places h needed i p is wanted part named =
     let among = sym (needs_own pieces places i p h.different is) ∙ wanted in
     let own = (needed.needed i).0 (among_to places i among) in
@@ -255,7 +255,7 @@ passed_at pieces lines places h needed i p is wanted part named =
     let there = among_from places found.0 ((needed.needed found.0).1 (by_piece i found.0 own has)) in
     subst (λ (id : List ℕ). needs pieces places id ≡ true) found.3 (needs_own pieces places found.0 q h.different found.2 ∙ there)
 
-passed_from : (test : List ℕ → Bool) (ps : List PieceValue) → ((i : ℕ) (p : PieceValue) → slice_get ps i ≡ Some p → test p.id ≡ true → AllPassed test (parts_of p.evidence))
+passed_from : (test : List ℕ → Bool) (ps : List PieceValue) → ((i : ℕ) (p : PieceValue) → slice_get ps i ≡ Some p → test p.id ≡ true → AllPassed test (ids_of_parts p.evidence))
     → ArePassed test ps
 passed_from test [] h = tt
 passed_from test (p ∷ ps) h = (h 0 p refl, passed_from test ps (λ i q is. h (suc i) q is))

@@ -24,12 +24,12 @@ use Rattle.ct_rules.specs.declared.rule.Rule.{Rule}
 use Rattle.ct_rules.specs.declared.rule.Rule.TheVariants.{L9, L11, M9, U10}
 use Rattle.ct_rules.specs.declared.arguments.Arguments.{Arguments}
 use Rattle.ct_rules.specs.declared.arguments.Arguments.TheVariants.{Nothing, Number, Numbers, Place}
-use Rattle.ct_rules.specs.Rule.{row_of, place_of, arguments_of, applies}
+use Rattle.ct_rules.specs.Rule.{row_of, named_place, arguments_of, applies}
 use Rattle.ct_rules.proofs.RuleNames.{place_among, place_is}
 use Rattle.ct_rules.specs.Derivation.{LineValue, Follows, IsDerivation}
 use Rattle.ct_rules.proofs.Applied.{defined, applies_from_premises}
 use Rattle.ct_rules.proofs.LoweredRules.{support_there}
-use Rattle.ct_piece.specs.Piece.{PieceValue, place_of as piece_place}
+use Rattle.ct_piece.specs.Piece.{PieceValue, place_of_id as piece_place}
 use Rattle.ct_piece.specs.Standing.{AreStanding}
 use Rattle.ct_piece.specs.Supports.{support_of, supports_of}
 use Rattle.ct_derive.specs.Check.{numbers_at}
@@ -48,7 +48,7 @@ abbrev pub ids_of : List PieceValue → List (List ℕ)
 ids_of pieces = map (λ (p : PieceValue). p.id) pieces
 
 -- the piece that a rule names has an id
-named_piece : (pieces : List PieceValue) (r : Rule) (place : ℕ) (e : Entry) → AreStanding pieces → applies (supports_of pieces) r e ≡ true → place_of r ≡ Some place
+named_piece : (pieces : List PieceValue) (r : Rule) (place : ℕ) (e : Entry) → AreStanding pieces → applies (supports_of pieces) r e ≡ true → named_place r ≡ Some place
     → HasId (ids_of pieces) place
 named_piece pieces r place e h applied names =
     let support = support_there (supports_of pieces) r place e applied names in

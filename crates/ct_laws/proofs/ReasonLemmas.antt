@@ -8,7 +8,7 @@ use Rattle.ct_words.specs.declared.claim.Claim.{Claim}
 use Rattle.ct_rule_parts.specs.Slot.{Slot}
 use Rattle.ct_rules.specs.declared.rule.Rule.{Rule}
 use Rattle.ct_rules.specs.Derivation.{LineValue}
-use Rattle.ct_rules.specs.Rule.{place_of}
+use Rattle.ct_rules.specs.Rule.{named_place}
 use Rattle.ct_rules.specs.Removal.{Places, lowered, names_one, IsChain, RestsOnPlaces}
 use Rattle.ct_table.specs.Removal.{claim_and_rule, claim_and_lowered_rule, KeepsReasons}
 use Rattle.ct_table.specs.Table.{TableValue, HasReason, reason_at}
@@ -19,13 +19,13 @@ line_of c r from = record { claim = c; rule = r; from = from }
 
 -- a line that names no line, by a rule that names no support of the set, rests on none
 pub rests_on_nothing : (lines : List LineValue) (gone : Places) (i : ℕ) (c : Claim) (r : Rule)
-    → slice_get lines i ≡ Some (line_of c r []) → names_one gone (place_of r) ≡ false → ¬ RestsOnPlaces lines gone i
+    → slice_get lines i ≡ Some (line_of c r []) → names_one gone (named_place r) ≡ false → ¬ RestsOnPlaces lines gone i
 rests_on_nothing lines gone i c r found free (chain, is) = go chain is
   where
     go : (chain : List ℕ) → IsChain lines gone i chain → ⊥
     go [] (m, there, names) =
         let one : m ≡ line_of c r [] = same_Some m (line_of c r []) (sym there ∙ found) in
-        let none : names_one gone (place_of m.rule) ≡ false = ap (λ (k : LineValue). names_one gone (place_of k.rule)) one ∙ free in
+        let none : names_one gone (named_place m.rule) ≡ false = ap (λ (k : LineValue). names_one gone (named_place k.rule)) one ∙ free in
         absurd (cc (sym names ∙ none))
     go (p ∷ ps) ((m, there, has), rest) =
         let one : m ≡ line_of c r [] = same_Some m (line_of c r []) (sym there ∙ found) in
@@ -34,14 +34,14 @@ rests_on_nothing lines gone i c r found free (chain, is) = go chain is
 
 -- nor does a line that names one such line
 pub rests_on_no_line : (lines : List LineValue) (gone : Places) (i j : ℕ) (c : Claim) (r : Rule)
-    → slice_get lines i ≡ Some (line_of c r (j ∷ [])) → names_one gone (place_of r) ≡ false
+    → slice_get lines i ≡ Some (line_of c r (j ∷ [])) → names_one gone (named_place r) ≡ false
     → ¬ RestsOnPlaces lines gone j → ¬ RestsOnPlaces lines gone i
 rests_on_no_line lines gone i j c r found free below (chain, is) = go chain is
   where
     go : (chain : List ℕ) → IsChain lines gone i chain → ⊥
     go [] (m, there, names) =
         let one : m ≡ line_of c r (j ∷ []) = same_Some m (line_of c r (j ∷ [])) (sym there ∙ found) in
-        let none : names_one gone (place_of m.rule) ≡ false = ap (λ (k : LineValue). names_one gone (place_of k.rule)) one ∙ free in
+        let none : names_one gone (named_place m.rule) ≡ false = ap (λ (k : LineValue). names_one gone (named_place k.rule)) one ∙ free in
         absurd (cc (sym names ∙ none))
     go (p ∷ ps) ((m, there, has), rest) =
         let one : m ≡ line_of c r (j ∷ []) = same_Some m (line_of c r (j ∷ [])) (sym there ∙ found) in
@@ -68,7 +68,7 @@ reason_stays gone old new s c r from entry keeps had free =
 
 -- a reason that names no line
 pub lone_reason_stays : (gone : Places) (old new : TableValue) (s : Slot) (c : Claim) (r : Rule) → IsEntry s.1
-    → KeepsReasons gone old new → HasReason old s (line_of c r []) → names_one gone (place_of r) ≡ false
+    → KeepsReasons gone old new → HasReason old s (line_of c r []) → names_one gone (named_place r) ≡ false
     → (after : List ℕ) × HasReason new s (line_of c (lowered gone r) after)
 lone_reason_stays gone old new s c r entry keeps had free =
     reason_stays gone old new s c r [] entry keeps had

@@ -11,7 +11,7 @@ use Rattle.ct_kind.specs.Named.{is_known, first_missing}
 use Rattle.ct_piece.specs.Withdrawal.{without, withdrawn, unless_used}
 use Rattle.ct_piece.specs.declared.fault.WithdrawFault.{WithdrawFault}
 use Rattle.ct_piece.specs.declared.fault.WithdrawFault.TheVariants as withdraw
-use Rattle.ct_files.specs.ByKind.{names, parts_of, own_reason}
+use Rattle.ct_files.specs.ByKind.{names, ids_of_parts, own_reason}
 use Rattle.ct_piece.specs.Piece.{PieceValue, has_id, stored_by, stored_words, first_user}
 use Rattle.ct_piece.specs.Codes.{codes_of}
 use Rattle.ct_piece.specs.Submission.{piece_of, made_unless, piece_from, stored_beside, unless_full, submitted}
@@ -117,7 +117,7 @@ judged pieces id document stated missing own =
     stored_beside (stored_words pieces) (made_unless (first_of (option_map NoSuch missing) own) (piece_of (codes_of pieces) id document stated))
 
 submitted-read : (pieces : List PieceValue) (id document : List ℕ) (stated : DocumentValue) → IsRead pieces id document stated
-    → submitted pieces id document ≡ judged pieces id document stated (first_missing (codes_of pieces) (parts_of stated.evidence)) (own_reason (codes_of pieces) stated.evidence)
+    → submitted pieces id document ≡ judged pieces id document stated (first_missing (codes_of pieces) (ids_of_parts stated.evidence)) (own_reason (codes_of pieces) stated.evidence)
 submitted-read pieces id document stated h = submitted-room pieces id document h.place ∙ ap (made_with pieces id document) h.read
 
 -- a kind's own reason refuses
@@ -142,7 +142,7 @@ same-refused pieces id document first second same h = let is : first ≡ second 
 read-refused : (pieces : List PieceValue) (id document : List ℕ) (stated : DocumentValue) (reason : SubmitFault) → IsRead pieces id document stated
     → submitted pieces id document ≡ Err reason → IsRefused pieces id document reason
 read-refused pieces id document stated reason read h =
-    at (first_missing (codes_of pieces) (parts_of stated.evidence)) (own_reason (codes_of pieces) stated.evidence) refl refl (sym (submitted-read pieces id document stated read) ∙ h)
+    at (first_missing (codes_of pieces) (ids_of_parts stated.evidence)) (own_reason (codes_of pieces) stated.evidence) refl refl (sym (submitted-read pieces id document stated read) ∙ h)
   where
     evidence : Evidence
     evidence = stated.evidence
@@ -150,21 +150,21 @@ read-refused pieces id document stated reason read h =
     total : ℕ
     total = stored_words pieces + stored_by (piece_of (codes_of pieces) id document stated)
 
-    above : (b : Bool) → nat_le total MAX_STORED ≡ b → first_missing (codes_of pieces) (parts_of evidence) ≡ None → own_reason (codes_of pieces) evidence ≡ None
+    above : (b : Bool) → nat_le total MAX_STORED ≡ b → first_missing (codes_of pieces) (ids_of_parts evidence) ≡ None → own_reason (codes_of pieces) evidence ≡ None
         → cond b (Ok (piece_of (codes_of pieces) id document stated)) (Err (FullWords total)) ≡ Err reason → IsRefused pieces id document reason
     above true few none own same = absurd cc
     above false many none own same =
         same-refused pieces id document (FullWords total) reason same
-        (record { stated = stated; read = read; parts = parts_stand pieces (parts_of evidence) none; checked = own_checked (codes_of pieces) evidence (document_read_of-right document stated read.read).0 own; sum = refl; many = leb-false total MAX_STORED many })
+        (record { stated = stated; read = read; parts = parts_stand pieces (ids_of_parts evidence) none; checked = own_checked (codes_of pieces) evidence (document_read_of-right document stated read.read).0 own; sum = refl; many = leb-false total MAX_STORED many })
 
-    at : (missing : Option (List ℕ)) (own : Option SubmitFault) → first_missing (codes_of pieces) (parts_of evidence) ≡ missing → own_reason (codes_of pieces) evidence ≡ own
+    at : (missing : Option (List ℕ)) (own : Option SubmitFault) → first_missing (codes_of pieces) (ids_of_parts evidence) ≡ missing → own_reason (codes_of pieces) evidence ≡ own
         → judged pieces id document stated missing own ≡ Err reason → IsRefused pieces id document reason
     at (Some part) own is own_is same =
-        same-refused pieces id document (NoSuch part) reason same (record { stated = stated; read = read; first = missing-first pieces (parts_of evidence) part is })
+        same-refused pieces id document (NoSuch part) reason same (record { stated = stated; read = read; first = missing-first pieces (ids_of_parts evidence) part is })
     at None (Some first) is own_is same =
         same-refused pieces id document first reason same
         (own-refused pieces id document first (reason-own (codes_of pieces) evidence first own_is)
-        (record { stated = stated; read = read; parts = parts_stand pieces (parts_of evidence) is; own = own-told (codes_of pieces) evidence first own_is }))
+        (record { stated = stated; read = read; parts = parts_stand pieces (ids_of_parts evidence) is; own = own-told (codes_of pieces) evidence first own_is }))
     at None None is own_is same = above (nat_le total MAX_STORED) refl is own_is same
 
 -- the reason of a submission that has room
@@ -193,7 +193,7 @@ refused-for pieces id document reason h = at (has_id id pieces) refl where
 -- a kind's own reason, where the parts stand
 own-refuses : (pieces : List PieceValue) (id document : List ℕ) (reason : SubmitFault) → IsOwnReason pieces id document reason → submitted pieces id document ≡ Err reason
 own-refuses pieces id document reason h =
-    let none = parts_known pieces (parts_of h.stated.evidence) h.parts in
+    let none = parts_known pieces (ids_of_parts h.stated.evidence) h.parts in
     submitted-read pieces id document h.stated h.read ∙ ap₂ (judged pieces id document h.stated) none (own-tells (codes_of pieces) h.stated.evidence reason h.own)
 
 -- and each reason that holds refuses
@@ -204,14 +204,14 @@ refuses pieces id document (FullPieces count) h =
 refuses pieces id document (File reason) h = submitted-room pieces id document h.0 ∙ ap (made_with pieces id document) h.1
 refuses pieces id document (NoSuch part) h =
     submitted-read pieces id document h.stated h.read
-    ∙ ap (λ (missing : Option (List ℕ)). judged pieces id document h.stated missing (own_reason (codes_of pieces) h.stated.evidence)) (first-missing pieces (parts_of h.stated.evidence) part h.first)
+    ∙ ap (λ (missing : Option (List ℕ)). judged pieces id document h.stated missing (own_reason (codes_of pieces) h.stated.evidence)) (first-missing pieces (ids_of_parts h.stated.evidence) part h.first)
 refuses pieces id document (WrongPart part) h = own-refuses pieces id document (WrongPart part) h
 refuses pieces id document (Code reason) h = own-refuses pieces id document (Code reason) h
 refuses pieces id document (Partition reason) h = own-refuses pieces id document (Partition reason) h
 refuses pieces id document (Build reason) h = own-refuses pieces id document (Build reason) h
 refuses pieces id document (Dual reason) h = own-refuses pieces id document (Dual reason) h
 refuses pieces id document (FullWords total) h =
-    let none = parts_known pieces (parts_of h.stated.evidence) h.parts in
+    let none = parts_known pieces (ids_of_parts h.stated.evidence) h.parts in
     let own = no_own_reason (codes_of pieces) h.stated.evidence (document_read_of-right document h.stated h.read.read).0 h.checked in
     let p = piece_of (codes_of pieces) id document h.stated in
     let count = stored_words pieces + stored_by p in

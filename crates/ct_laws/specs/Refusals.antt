@@ -1,7 +1,7 @@
 -- Why a submission or a withdrawal over the pieces that stand is refused, reason by reason: each holds where those before it don't.
 use Rattle.std.specs.Prelude.{◌≡◌, ◌≢◌, ◌<◌, ◌≤◌, ℕ, true, false, ◌+◌, List, ◌∷◌, ◌++◌, length, map, All, Contains, Ok, Err}
 use Rattle.ct_files.specs.Document.{DocumentValue, document_read_of}
-use Rattle.ct_files.specs.ByKind.{names, parts_of, IsChecked}
+use Rattle.ct_files.specs.ByKind.{names, ids_of_parts, IsChecked}
 use Rattle.ct_laws.specs.OwnRefusal.{IsOwnRefusal}
 use Rattle.ct_piece.specs.Piece.{PieceValue, stored_by, stored_words}
 use Rattle.ct_piece.specs.Codes.{codes_of}
@@ -38,20 +38,20 @@ pub record IsFirstMissing (pieces : List PieceValue) (ids : List (List ℕ)) (id
 pub record IsOwnReason (pieces : List PieceValue) (id document : List ℕ) (reason : SubmitFault) : Type 0 where
   pub stated : DocumentValue
   pub read : IsRead pieces id document stated
-  pub parts : All (IsTaken pieces) (parts_of stated.evidence)
+  pub parts : All (IsTaken pieces) (ids_of_parts stated.evidence)
   pub own : IsOwnRefusal (codes_of pieces) stated.evidence reason
 
 -- the document names this part first of those that don't stand
 pub record NamesMissing (pieces : List PieceValue) (id document part : List ℕ) : Type 0 where
   pub stated : DocumentValue
   pub read : IsRead pieces id document stated
-  pub first : IsFirstMissing pieces (parts_of stated.evidence) part
+  pub first : IsFirstMissing pieces (ids_of_parts stated.evidence) part
 
 -- the evidence is as its kind asks, but so many words would be stored with it, which are too many
 pub record IsAboveStored (pieces : List PieceValue) (id document : List ℕ) (total : ℕ) : Type 0 where
   pub stated : DocumentValue
   pub read : IsRead pieces id document stated
-  pub parts : All (IsTaken pieces) (parts_of stated.evidence)
+  pub parts : All (IsTaken pieces) (ids_of_parts stated.evidence)
   pub checked : IsChecked (codes_of pieces) stated.evidence
   pub sum : total ≡ stored_words pieces + stored_by (piece_of (codes_of pieces) id document stated)
   pub many : MAX_STORED < total

@@ -14,7 +14,7 @@ ghost use Rattle.ct_duals.specs.Dual.{IsDual};
 ghost use Rattle.ct_kind.specs.Named.{NamedCode};
 ghost use Rattle.ct_kind.specs.declared.fault.SubmitFault.{SubmitFault};
 ghost use Rattle.ct_rule_parts.specs.declared.support.Support.TheVariants.{Nothing, Odd, Local};
-ghost use Rattle.ct_dual_files.specs.Dual.{dual_of, odd_of, johnson_dual_of, local_dual_of};
+ghost use Rattle.ct_dual_files.specs.Dual.{document_dual, odd_of, johnson_dual_of, local_dual_of};
 ghost use Rattle.ct_dual_files.specs.DualDocument.{IsDualAnswer, IsJohnsonDualAnswer};
 ghost use Rattle.ct_dual_files.specs.OddDocument.{IsOddSize, IsOddAnswer};
 ghost use Rattle.ct_dual_files.specs.LocalDocument.{IsLocalDualAnswer};
@@ -27,7 +27,7 @@ ghost use Rattle.ct_laws.specs.DualExamples.{thirteen_six, eight_four_four, nine
 /// `IsDualAnswer`, `IsOddAnswer`, `IsJohnsonDualAnswer` or `IsLocalDualAnswer` says, which field or which other fault it may be.
 pub fn answers_to_duals()
     ensures dual { (members : Members) (answer : Result Dual DocumentFault) → IsOfKind (codes "dual") (table members) →
-        (dual_of (table members) ≡ answer) ↔ IsDualAnswer (table members) answer }
+        (document_dual (table members) ≡ answer) ↔ IsDualAnswer (table members) answer }
     ensures odd { (members : Members) (answer : Result (Dual × ℕ) DocumentFault) → IsOfKind (codes "odd") (table members) →
         (odd_of (table members) ≡ answer) ↔ IsOddAnswer (table members) answer }
     ensures johnson { (members : Members) (answer : Result Dual DocumentFault) → IsOfKind (codes "jdual") (table members) →
@@ -39,7 +39,7 @@ pub fn answers_to_duals()
 /// Every dual reads back from its table: one without weight as of kind dual, and with each odd number of words from 3 to `MAX_ODD` as of
 /// kind odd, one with a weight as of kind jlocal, and where it allows nothing as of kind jdual.
 pub fn duals_read_back()
-    ensures dual { (d : Dual) → IsDual d → d.entry.w ≡ None → dual_of (table (dual_table d)) ≡ Ok d }
+    ensures dual { (d : Dual) → IsDual d → d.entry.w ≡ None → document_dual (table (dual_table d)) ≡ Ok d }
     ensures odd { (d : Dual) (m : ℕ) → IsDual d → d.entry.w ≡ None → IsOddSize m → odd_of (table (odd_table d m)) ≡ Ok (d, m) }
     ensures johnson { (d : Dual) → IsDual d → IsSome d.entry.w → d.y ≡ [] →
         johnson_dual_of (table (johnson_dual_table d)) ≡ Ok d }
@@ -82,14 +82,14 @@ pub fn local_duals_give_their_bounds()
 /// Two duals read back from their tables, and documents with a wrong field: `even` only with an even d; c not empty, and
 /// none of it negative; the indices of y ascending, of the range, and even where `even` is set.
 pub fn known_documents()
-    ensures plain { dual_of (table (dual_table thirteen_six)) ≡ Ok thirteen_six }
+    ensures plain { document_dual (table (dual_table thirteen_six)) ≡ Ok thirteen_six }
     ensures weighted { johnson_dual_of (table (johnson_dual_table eight_four_four)) ≡ Ok eight_four_four }
-    ensures even { dual_of (document 5 true [] []) ≡ Err (Field name.Even) }
-    ensures empty { dual_of (document 6 true [] ((7, pos 1) ∷ [])) ≡ Err (Field name.C) }
-    ensures negative { dual_of (document 6 true (pos 1 ∷ negsuc 0 ∷ []) []) ≡ Err (Field name.C) }
-    ensures odd_index { dual_of (document 6 true (pos 1 ∷ []) ((7, pos 1) ∷ [])) ≡ Err (Field name.Y) }
-    ensures descending { dual_of (document 6 false (pos 1 ∷ []) ((8, pos 1) ∷ (7, pos 1) ∷ [])) ≡ Err (Field name.Y) }
-    ensures near { dual_of (document 6 false (pos 1 ∷ []) ((5, pos 1) ∷ [])) ≡ Err (Field name.Y) }
+    ensures even { document_dual (document 5 true [] []) ≡ Err (Field name.Even) }
+    ensures empty { document_dual (document 6 true [] ((7, pos 1) ∷ [])) ≡ Err (Field name.C) }
+    ensures negative { document_dual (document 6 true (pos 1 ∷ negsuc 0 ∷ []) []) ≡ Err (Field name.C) }
+    ensures odd_index { document_dual (document 6 true (pos 1 ∷ []) ((7, pos 1) ∷ [])) ≡ Err (Field name.Y) }
+    ensures descending { document_dual (document 6 false (pos 1 ∷ []) ((8, pos 1) ∷ (7, pos 1) ∷ [])) ≡ Err (Field name.Y) }
+    ensures near { document_dual (document 6 false (pos 1 ∷ []) ((5, pos 1) ∷ [])) ≡ Err (Field name.Y) }
 {}
 
 /// A dual with an odd number of words reads back from its table, with the least and the greatest number too; and documents with a wrong
@@ -107,7 +107,7 @@ pub fn known_odd_documents()
     ensures before_multipliers { odd_of (odd_document 4 (integer (pos 20)) []) ≡ Err (Field name.M) }
     ensures multipliers { odd_of (odd_document 4 (integer (pos 21)) []) ≡ Err (Field name.C) }
     ensures after_even { odd_of (odd_document 5 (integer (pos 20)) []) ≡ Err (Field name.Even) }
-    ensures of_kind_dual { dual_of (table (put name.M (integer (pos 21)) (dual_table nine_four))) ≡ Err Unknown }
+    ensures of_kind_dual { document_dual (table (put name.M (integer (pos 21)) (dual_table nine_four))) ≡ Err Unknown }
     ensures weight { odd_of (table (put name.W (integer (pos 4)) (odd_table nine_four 21))) ≡ Err Unknown }
 {}
 

@@ -19,7 +19,7 @@ ghost use Rattle.ct_laws.specs.OwnRefusal.{IsOwnRefusal};
 ghost use Rattle.ct_kind.specs.KindParts.{stored_for};
 ghost use Rattle.ct_kind.specs.Named.{NamedCode};
 ghost use Rattle.ct_laws.specs.Refusals.{IsRefused, IsNotWithdrawn};
-ghost use Rattle.ct_piece.specs.Withdrawal.{withdrawn, withdrawn_all, taken_along, is_among, IsTakenAlong};
+ghost use Rattle.ct_piece.specs.Withdrawal.{withdrawn, withdrawn_all, taken_along, is_id_among, IsTakenAlong};
 ghost use Rattle.ct_piece.specs.declared.limits.TheConstants.{MAX_PIECES, MAX_STORED};
 ghost use Rattle.ct_piece.specs.declared.fault.WithdrawFault.{WithdrawFault};
 ghost use Rattle.ct_piece.specs.declared.fault.WithdrawFault.TheVariants as withdraw;
@@ -83,7 +83,7 @@ pub fn withdrawals_that_are_refused()
 /// each one whose piece names one of the set. It is refused exactly where no piece has the id, and the pieces that it leaves stand.
 pub fn pieces_taken_along()
     ensures taken { (pieces : List PieceValue) (id : List ℕ) (i : ℕ) (p : PieceValue) → AreStanding pieces → slice_get pieces i ≡ Some p
-        → (is_among (taken_along pieces id) p.id ≡ true) ↔ IsTakenAlong pieces id i }
+        → (is_id_among (taken_along pieces id) p.id ≡ true) ↔ IsTakenAlong pieces id i }
     ensures least { (pieces : List PieceValue) (id : List ℕ) (places : ℕ → Bool)
         → ((i : ℕ) (p : PieceValue) → slice_get pieces i ≡ Some p → p.id ≡ id → places i ≡ true)
         → ((i j : ℕ) (p q : PieceValue) → slice_get pieces i ≡ Some p → slice_get pieces j ≡ Some q → names p.evidence q.id ≡ true

@@ -6,7 +6,7 @@ ghost use Rattle.ct_words.specs.Entry.{IsEntry};
 ghost use Rattle.ct_rule_parts.specs.declared.support.Support.{Support};
 ghost use Rattle.ct_rule_parts.specs.Slot.{Slot, slot_of, claim_at, lower_at, upper_at, IsBetter};
 ghost use Rattle.ct_rules.specs.declared.rule.Rule.TheVariants.{L2, L4, L6, L10, M10, U2};
-ghost use Rattle.ct_rules.specs.Rule.{place_of};
+ghost use Rattle.ct_rules.specs.Rule.{named_place};
 ghost use Rattle.ct_rules.specs.Derivation.{LineValue};
 ghost use Rattle.ct_rules.specs.Removal.{Places, only, RestsOnPlaces, lowered_line};
 ghost use Rattle.ct_kept.specs.Kept.{KeptValue, IsGroundBound, with_line_put};
@@ -23,7 +23,7 @@ pub fn tables_hold_reasons()
         slice_get table.lines i ≡ Some line → i ≤ reason_at table (slot_of line.claim) }
     ensures grounded { (table : TableValue) (s : Slot) → IsShownTable table → IsEntry s.1 →
         (i : ℕ) × (line : LineValue) × (slice_get table.lines i ≡ Some line) × (slot_of line.claim ≡ s) ×
-        (line.from ≡ []) × (place_of line.rule ≡ None) × IsGroundBound s line.claim.value }
+        (line.from ≡ []) × (named_place line.rule ≡ None) × IsGroundBound s line.claim.value }
 {}
 
 /// Where a table grew its lines stay at their places, each later one is better than the bound that its slot had, and a reason

@@ -6,7 +6,7 @@ use Rattle.ct_rules.specs.Removal.{marked, without}
 use Rattle.ct_rules.proofs.WithoutLemmas.{without-in, without-out}
 use Rattle.ct_piece.specs.Piece.{PieceValue}
 use Rattle.ct_piece.specs.Supports.{support_of, supports_of}
-use Rattle.ct_piece.specs.Withdrawal.{is_among, taken_along, without_all, marks_along}
+use Rattle.ct_piece.specs.Withdrawal.{is_id_among, taken_along, without_all, marks_along}
 
 left_supports : (out : List ℕ → Bool) (ps : List PieceValue)
     → without (marked (map (λ (p : PieceValue). out p.id) ps)) (supports_of ps) ≡ supports_of (filter (λ (p : PieceValue). not (out p.id)) ps)
@@ -29,4 +29,4 @@ left_supports out (p ∷ ps) = at (out p.id) (left_supports out ps) where
 -- without those that are taken along with a piece
 pub supports-along : (pieces : List PieceValue) (id : List ℕ)
     → without (marked (marks_along pieces id)) (supports_of pieces) ≡ supports_of (without_all (taken_along pieces id) pieces)
-supports-along pieces id = left_supports (is_among (taken_along pieces id)) pieces
+supports-along pieces id = left_supports (is_id_among (taken_along pieces id)) pieces

@@ -9,7 +9,7 @@ use Rattle.ct_rule_parts.proofs.Lawful.{defined_condition}
 use Rattle.ct_rule_parts.proofs.PlainEntries.{no_item}
 use Rattle.ct_rules.specs.declared.rule.Rule.{Rule}
 use Rattle.ct_rules.specs.declared.rule.Rule.TheVariants.{L11, M9}
-use Rattle.ct_rules.specs.Rule.{row_of, is_alone, is_by_weight, place_of, cited, parts_over, rule_side, applies}
+use Rattle.ct_rules.specs.Rule.{row_of, is_alone, is_by_weight, named_place, cited, parts_over, rule_side, applies}
 use Rattle.ct_rules.specs.Inside.RestedOn.{rested_on_by}
 use Rattle.ct_rules.specs.Listing.{rules_alone}
 use Rattle.ct_offers.specs.Inside.Pulled.{given_rule}
@@ -37,9 +37,9 @@ class_rests supports r k e f same rests = subst (λ (q : Rule). Contains ((parts
 
 pub rests_on-cases : (supports : List Support) (r : Rule) (f e : Entry) → applies supports r e ≡ true
     → Contains ((parts_over supports r).rests_on e) f → RestsAlone r f e ⊎ IsOtherRule supports r e
-rests_on-cases supports r f e defined rests = by_place (place_of r) refl
+rests_on-cases supports r f e defined rests = by_place (named_place r) refl
   where
-    by_itself_or_numbers : place_of r ≡ None → (b : Bool) → is_alone r ≡ b → RestsAlone r f e ⊎ IsOtherRule supports r e
+    by_itself_or_numbers : named_place r ≡ None → (b : Bool) → is_alone r ≡ b → RestsAlone r f e ⊎ IsOtherRule supports r e
     by_itself_or_numbers none true alone =
         let same = alone-parts r supports alone in
         inl (record {
@@ -57,7 +57,7 @@ rests_on-cases supports r f e defined rests = by_place (place_of r) refl
       | inr (inr by) ↦ inr (inr (inl by))
     ]
 
-    by_place : (place : Option ℕ) → place_of r ≡ place → RestsAlone r f e ⊎ IsOtherRule supports r e
+    by_place : (place : Option ℕ) → named_place r ≡ place → RestsAlone r f e ⊎ IsOtherRule supports r e
     by_place None none = by_itself_or_numbers none (is_alone r) refl
     by_place (Some place) named =
         elim (supported-rests r place (cited supports r) e named) [

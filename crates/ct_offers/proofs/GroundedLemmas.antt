@@ -11,14 +11,14 @@ use Rattle.ct_rules.specs.declared.rule.Rule.{Rule}
 use Rattle.ct_rules.specs.declared.rule.Rule.TheVariants.{L1, L2, M1, M2, M9, U0, U1, U2, U3, V0, V1, V2, V8}
 use Rattle.ct_rules.specs.declared.rule.TheConstants.{LOWER_RULES, UPPER_RULES, LOWER_WEIGHT_RULES, UPPER_WEIGHT_RULES}
 use Rattle.ct_rules.specs.Listing.{rules_alone}
-use Rattle.ct_rules.specs.Rule.{row_of, rule_side, place_of, parts_of}
+use Rattle.ct_rules.specs.Rule.{row_of, rule_side, named_place, parts_of}
 use Rattle.ct_offers.specs.Offers.{value_over, AreGrounded, IsWithin}
 use Rattle.ct_offers.specs.Inside.Pulled.{resting_rules}
 use Rattle.ct_offers.proofs.PulledLemmas.{within_better}
 
 -- a rule that rests on nothing gives nothing better than a bound that is no worse than what stands
 from_ground : (supports : List Support) (f : Slot → ℕ) (r : Rule) (e : Entry) (best : ℕ) → AreGrounded supports f → IsEntry e
-    → place_of r ≡ None → (parts_of r None).rests_on e ≡ [] → IsNoBetter (rule_side r) (f (rule_side r, e)) best
+    → named_place r ≡ None → (parts_of r None).rests_on e ≡ [] → IsNoBetter (rule_side r) (f (rule_side r, e)) best
     → IsWithin supports f (rule_side r, e) best r
 from_ground supports f r e best grounded entry none nothing worse =
     within_better supports f (rule_side r, e) (f (rule_side r, e)) best r worse (grounded r e entry none nothing)

@@ -5,7 +5,7 @@ use Rattle.ct_words.specs.Entry.{IsEntry}
 use Rattle.ct_rule_parts.specs.declared.support.Support.{Support}
 use Rattle.ct_rule_parts.specs.Slot.{Slot, IsBetter, IsNoBetter}
 use Rattle.ct_rules.specs.declared.rule.Rule.{Rule}
-use Rattle.ct_rules.specs.Rule.{rule_side, place_of, parts_of, premises_at, applies, value_of}
+use Rattle.ct_rules.specs.Rule.{rule_side, named_place, parts_of, premises_at, applies, value_of}
 
 -- the bound that a rule gives at an entry over the bounds that stand
 abbrev pub value_over : List Support → (Slot → ℕ) → Rule → Entry → Option ℕ
@@ -27,5 +27,5 @@ IsLimit supports bounds s limit = (r : Rule) → rule_side r ≡ s.0 → IsWithi
 
 -- no rule that rests on nothing, neither on a support nor on a bound, gives anything better than what stands
 abbrev pub AreGrounded : List Support → (Slot → ℕ) → Type 0
-AreGrounded supports bounds = (r : Rule) (e : Entry) → IsEntry e → place_of r ≡ None → (parts_of r None).rests_on e ≡ [] →
+AreGrounded supports bounds = (r : Rule) (e : Entry) → IsEntry e → named_place r ≡ None → (parts_of r None).rests_on e ≡ [] →
     IsWithin supports bounds (rule_side r, e) (bounds (rule_side r, e)) r

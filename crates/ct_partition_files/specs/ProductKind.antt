@@ -40,17 +40,17 @@ is_wrong_first w long None = true
 is_wrong_first w long (Some x) = not (x.entry.n == long) || (is_some w && not (is_some x.entry.w))
 
 -- whether two weights add up to the stated one; where none is stated, nothing is asked of them
-abbrev pub add_up : Option ℕ → Option ℕ → Option ℕ → Bool
-add_up None v u = true
-add_up (Some w) None u = false
-add_up (Some w) (Some v) None = false
-add_up (Some w) (Some v) (Some u) = v + u == w
+abbrev pub weights_add_up : Option ℕ → Option ℕ → Option ℕ → Bool
+weights_add_up None v u = true
+weights_add_up (Some w) None u = false
+weights_add_up (Some w) (Some v) None = false
+weights_add_up (Some w) (Some v) (Some u) = v + u == w
 
 -- whether a second id is wrong beside the first partition: its piece is no partition, both lengths don't add up to that of the entry, or, where
 -- a weight is stated, it has none or both don't add up to it
 abbrev pub is_wrong_second : Entry → PartitionValue → Option PartitionValue → Bool
 is_wrong_second e x None = true
-is_wrong_second e x (Some y) = not (x.entry.n + y.entry.n == e.n) || not (add_up e.w x.entry.w y.entry.w)
+is_wrong_second e x (Some y) = not (x.entry.n + y.entry.n == e.n) || not (weights_add_up e.w x.entry.w y.entry.w)
 
 -- the first id of a pair that is wrong
 abbrev pub wrong_of_pair : Entry → ℕ → List NamedCode → Ids → Option (List ℕ)

@@ -12,7 +12,7 @@ use Rattle.ct_words.proofs.PairLemmas.{least_pair-none, NoPair-from}
 use Rattle.ct_words.proofs.CheckLemmas.{equal_is_close}
 use Rattle.ct_classes.specs.declared.fault.PartitionFault.TheVariants.{Repeated, Close}
 use Rattle.ct_classes.specs.Partition.{words_of_classes}
-use Rattle.ct_partitions.specs.Check.{class_at, need, distance_at, is_close, repeated_fault, close_fault}
+use Rattle.ct_partitions.specs.Check.{class_at, need, distance_at, is_close, partition_repeated_fault, partition_close_fault}
 
 -- what two places need is at least the distance between classes
 pub between-le-need : (d between : ℕ) (classes : List (List ℕ)) (i j : ℕ) → between ≤ d → between ≤ need d between classes i j
@@ -50,7 +50,7 @@ different_from_needs n d between classes some nearer needs =
 
 pub no_pair_fault : (n d between : ℕ) (classes : List (List ℕ)) (words : List ℕ) → words ≡ words_of_classes classes → 1 ≤ between → between ≤ d
     → least_pair (is_close n d between classes) (all_places (length words)) ≡ None
-    → first_of (repeated_fault words) (close_fault n d between classes) ≡ None
+    → first_of (partition_repeated_fault words) (partition_close_fault n d between classes) ≡ None
 no_pair_fault n d between classes words are some nearer none =
     let there : least_pair (is_close n d between classes) (all_places (length (words_of_classes classes))) ≡ None =
     ap (λ (ws : List ℕ). least_pair (is_close n d between classes) (all_places (length ws))) (sym are) ∙ none in
@@ -61,7 +61,7 @@ no_pair_fault n d between classes words are some nearer none =
 -- the least pair of equal words comes first
 pub repeated_pair_fault : (n d between : ℕ) (classes : List (List ℕ)) (words : List ℕ) (i j : ℕ) → All (λ x. x < 2 ^ n) words
     → least_pair (λ x y. nat_lt (distance n x y) 1) words ≡ Some (i, j)
-    → first_of (repeated_fault words) (close_fault n d between classes) ≡ Some (Repeated i j)
+    → first_of (partition_repeated_fault words) (partition_close_fault n d between classes) ≡ Some (Repeated i j)
 repeated_pair_fault n d between classes words i j below found = rw (equal_is_close n words below ∙ found)
 
 -- and then the least pair that is too close
@@ -71,7 +71,7 @@ pub close_pair_fault : (n d between : ℕ) (classes : List (List ℕ)) (words : 
     → least_pair (is_close n d between classes) (all_places (length words)) ≡ Some (i, j)
     → apart ≡ distance n (get_or words i 0) (get_or words j 0) → first ≡ class_at classes i → second ≡ class_at classes j
     → needed ≡ need d between classes i j
-    → Some (Close i j apart first second needed) ≡ first_of (repeated_fault words) (close_fault n d between classes)
+    → Some (Close i j apart first second needed) ≡ first_of (partition_repeated_fault words) (partition_close_fault n d between classes)
 close_pair_fault n d between classes words i j apart first second needed are below different found apart_is first_is second_is needed_is =
     let there : least_pair (is_close n d between classes) (all_places (length (words_of_classes classes))) ≡ Some (i, j) =
     ap (λ (ws : List ℕ). least_pair (is_close n d between classes) (all_places (length ws))) (sym are) ∙ found in

@@ -18,7 +18,7 @@ use Rattle.ct_words.specs.Constructions.Juxtaposed.{added_weights}
 use Rattle.ct_words.proofs.Constructions.JoinedLemmas.{followed_by-lt, weight-followed_by, distance-followed_by}
 use Rattle.ct_words.proofs.Constructions.FarWords.{AreFar, code_from_far}
 use Rattle.ct_classes.specs.Partition.{words_of_classes, IsPartition}
-use Rattle.ct_partitions.specs.Product.{Factors, all_followed, class_products, product, weight_of, pair_distance, weight_gap, distances, least, product_size, product_distance, AreFactors}
+use Rattle.ct_partitions.specs.Product.{Factors, all_followed, class_products, product, partition_weight, pair_distance, weight_gap, distances, least, product_size, product_distance, AreFactors}
 
 -- what holds of two lists in a row holds of each
 All-parts : {X : Type 0} (P : X → Type 0) (xs ys : List X) → All P (xs ++ ys) → All P xs × All P ys
@@ -229,9 +229,9 @@ pair-parts p v u are one two =
 
 -- both weights of a pair whose weights add up to k
 record HaveWeights (k : ℕ) (p : Factors) : Type 0 where
-  first_weight : p.0.entry.w ≡ Some (weight_of p.0)
-  second_weight : p.1.entry.w ≡ Some (weight_of p.1)
-  sum : weight_of p.0 + weight_of p.1 ≡ k
+  first_weight : p.0.entry.w ≡ Some (partition_weight p.0)
+  second_weight : p.1.entry.w ≡ Some (partition_weight p.1)
+  sum : partition_weight p.0 + partition_weight p.1 ≡ k
 
 have_weights : (k : ℕ) (p : Factors) → added_weights p.0.entry.w p.1.entry.w ≡ Some k → HaveWeights k p
 have_weights k p is = go p.0.entry.w p.1.entry.w refl refl is
@@ -240,8 +240,8 @@ have_weights k p is = go p.0.entry.w p.1.entry.w refl refl is
     go None u one two h = cc
     go (Some i) None one two h = cc
     go (Some i) (Some j) one two h =
-        let first : weight_of p.0 ≡ i = ap (λ o. unwrap_or o 0) one in
-        let second : weight_of p.1 ≡ j = ap (λ o. unwrap_or o 0) two in
+        let first : partition_weight p.0 ≡ i = ap (λ o. unwrap_or o 0) one in
+        let second : partition_weight p.1 ≡ j = ap (λ o. unwrap_or o 0) two in
         let both : i + j ≡ k = cc in
         record { first_weight = one ∙ ap Some (sym first); second_weight = two ∙ ap Some (sym second); sum = omega arith }
 
@@ -258,11 +258,11 @@ record Known (a m k : ℕ) (p : Factors) : Type 0 where
   lengths : AreOfLengths a m p
   weights : HaveWeights k p
 
-known-parts : (a m k : ℕ) (p : Factors) → Known a m k p → All (Parts a m (weight_of p.0) (weight_of p.1)) (words_of_pair p)
+known-parts : (a m k : ℕ) (p : Factors) → Known a m k p → All (Parts a m (partition_weight p.0) (partition_weight p.1)) (words_of_pair p)
 known-parts a m k p known =
-    subst (λ i. All (Parts i m (weight_of p.0) (weight_of p.1)) (words_of_pair p)) known.lengths.first_length
-    (subst (λ j. All (Parts p.0.entry.n j (weight_of p.0) (weight_of p.1)) (words_of_pair p)) known.lengths.second_length
-    (pair-parts p (weight_of p.0) (weight_of p.1) known.partitions known.weights.first_weight known.weights.second_weight))
+    subst (λ i. All (Parts i m (partition_weight p.0) (partition_weight p.1)) (words_of_pair p)) known.lengths.first_length
+    (subst (λ j. All (Parts p.0.entry.n j (partition_weight p.0) (partition_weight p.1)) (words_of_pair p)) known.lengths.second_length
+    (pair-parts p (partition_weight p.0) (partition_weight p.1) known.partitions known.weights.first_weight known.weights.second_weight))
 
 known-far : (a m k d : ℕ) (p : Factors) → Known a m k p → d ≤ pair_distance p → AllPairs (Far (a + m) d) (words_of_pair p)
 known-far a m k d p known near =
@@ -284,7 +284,7 @@ far_product a m k d (p ∷ ps) known near =
     (λ i z within. All-product (Far (a + m) d (get_or (words_of_pair p) i z)) ps
     (across (get_or (words_of_pair p) i z) (known-parts a m k p here i z within) here.weights ps rest gaps.0))
   where
-    across : (x : ℕ) → Parts a m (weight_of p.0) (weight_of p.1) x → HaveWeights k p → (qs : List Factors) → All (Known a m k) qs
+    across : (x : ℕ) → Parts a m (partition_weight p.0) (partition_weight p.1) x → HaveWeights k p → (qs : List Factors) → All (Known a m k) qs
         → All (λ v. d ≤ v) (map (weight_gap p) qs) → All (λ q. All (Far (a + m) d x) (words_of_pair q)) qs
     across x parts weights [] others gaps = All-nil (λ q. All (Far (a + m) d x) (words_of_pair q))
     across x parts weights (q ∷ qs) others gaps =
@@ -295,7 +295,7 @@ far_product a m k d (p ∷ ps) known near =
         let words = known-parts a m k q other in
         All-cons (λ r. All (Far (a + m) d x) (words_of_pair r)) q qs
         (λ i z within.
-        let apart = parts-apart a m (weight_of p.0) (weight_of p.1) (weight_of q.0) (weight_of q.1) x (get_or (words_of_pair q) i z)
+        let apart = parts-apart a m (partition_weight p.0) (partition_weight p.1) (partition_weight q.0) (partition_weight q.1) x (get_or (words_of_pair q) i z)
         (omega arith) parts (words i z within) in
         omega arith)
         (across x parts weights qs (All-tail (Known a m k) q qs others) (All-tail (λ v. d ≤ v) (weight_gap p q) (map
@@ -312,13 +312,13 @@ code_of_weight : (a m k d : ℕ) (ps : List Factors) → 1 ≤ d → All (Known 
     → IsCode (a + m) d (Some k) (product ps)
 code_of_weight a m k d ps some known near =
     code_from_distances (a + m) d (Some k) (product ps) some
-    (All-product (λ z. z < 2 ^ (a + m)) ps (λ i q within. All-weaker (Parts a m (weight_of (get_or ps i q).0) (weight_of
+    (All-product (λ z. z < 2 ^ (a + m)) ps (λ i q within. All-weaker (Parts a m (partition_weight (get_or ps i q).0) (partition_weight
     (get_or ps i q).1)) (λ z. z < 2 ^ (a + m)) below
     (words_of_pair (get_or ps i q)) (known-parts a m k (get_or ps i q) (known i q within))))
     (far_product a m k d ps known near)
-    (All-product (λ z. weight (a + m) z ≡ k) ps (λ i q within. All-weaker (Parts a m (weight_of (get_or ps i q).0) (weight_of
+    (All-product (λ z. weight (a + m) z ≡ k) ps (λ i q within. All-weaker (Parts a m (partition_weight (get_or ps i q).0) (partition_weight
     (get_or ps i q).1)) (λ z. weight (a + m) z ≡ k)
-    (λ z parts. sums z (weight_of (get_or ps i q).0) (weight_of (get_or ps i q).1) parts (known i q within).weights.sum)
+    (λ z parts. sums z (partition_weight (get_or ps i q).0) (partition_weight (get_or ps i q).1) parts (known i q within).weights.sum)
     (words_of_pair (get_or ps i q)) (known-parts a m k (get_or ps i q) (known i q within))))
   where
     below : {v u : ℕ} (z : ℕ) → Parts a m v u z → z < 2 ^ (a + m)

@@ -44,21 +44,21 @@ wrong_count classes =
     else None
 
 -- the fault of a wrong count
-abbrev pub size_fault : List (List ℕ) → Option PartitionFault
-size_fault classes = option_map Size (wrong_count classes)
+abbrev pub partition_size_fault : List (List ℕ) → Option PartitionFault
+partition_size_fault classes = option_map Size (wrong_count classes)
 
 -- the first word that has not the weight of the entry
-abbrev pub weight_fault : ℕ → Option ℕ → List ℕ → Option PartitionFault
-weight_fault n None words = None
-weight_fault n (Some w) words = option_map Weight (position (λ x. not (weight n x == w)) words)
+abbrev pub partition_weight_fault : ℕ → Option ℕ → List ℕ → Option PartitionFault
+partition_weight_fault n None words = None
+partition_weight_fault n (Some w) words = option_map Weight (position (λ x. not (weight n x == w)) words)
 
 -- the least pair of equal words
-abbrev pub repeated_fault : List ℕ → Option PartitionFault
-repeated_fault words = option_map (λ p. Repeated p.0 p.1) (least_pair (λ x y. x == y) words)
+abbrev pub partition_repeated_fault : List ℕ → Option PartitionFault
+partition_repeated_fault words = option_map (λ p. Repeated p.0 p.1) (least_pair (λ x y. x == y) words)
 
 -- the least pair of words that are closer than they need to be, their distance, their classes and what they need
-abbrev pub close_fault : ℕ → ℕ → ℕ → List (List ℕ) → Option PartitionFault
-close_fault n d between classes =
+abbrev pub partition_close_fault : ℕ → ℕ → ℕ → List (List ℕ) → Option PartitionFault
+partition_close_fault n d between classes =
     option_map (λ p. Close p.0 p.1 (distance_at n classes p.0 p.1) (class_at classes p.0) (class_at classes p.1)
     (need d between classes p.0 p.1))
     (least_pair (is_close n d between classes) (all_places (length (words_of_classes classes))))
@@ -66,6 +66,6 @@ close_fault n d between classes =
 -- the first reason why the lists are not accepted as classes: size, weight, repeated, close, in this order; none where they are
 unfoldable pub partition_fault : Entry → ℕ → List (List ℕ) → Option PartitionFault
 partition_fault e between classes =
-    first_of (size_fault classes)
-    (first_of (weight_fault e.n e.w (words_of_classes classes))
-    (first_of (repeated_fault (words_of_classes classes)) (close_fault e.n e.d between classes)))
+    first_of (partition_size_fault classes)
+    (first_of (partition_weight_fault e.n e.w (words_of_classes classes))
+    (first_of (partition_repeated_fault (words_of_classes classes)) (partition_close_fault e.n e.d between classes)))

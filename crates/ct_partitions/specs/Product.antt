@@ -29,8 +29,8 @@ abbrev pub product_size : List Factors → ℕ
 product_size pairs = sum_by (λ p. sum_by (λ c. length c.0 * length c.1) (zip p.0.classes p.1.classes)) pairs
 
 -- the weight of the words of a partition, 0 where it has none
-abbrev pub weight_of : PartitionValue → ℕ
-weight_of p = unwrap_or p.entry.w 0
+abbrev pub partition_weight : PartitionValue → ℕ
+partition_weight p = unwrap_or p.entry.w 0
 
 -- the distance of the product of one pair (X,Y): the least of d(X), d(Y), and between(X) + between(Y)
 abbrev pub pair_distance : Factors → ℕ
@@ -38,7 +38,7 @@ pair_distance p = min (min p.0.entry.d p.1.entry.d) (p.0.between + p.1.between)
 
 -- the distance of the words of two pairs (X,Y) and (X',Y') whose weights add up to the same: 2·|w(X) - w(X')|
 abbrev pub weight_gap : Factors → Factors → ℕ
-weight_gap p q = 2 * ((weight_of p.0 - weight_of q.0) + (weight_of q.0 - weight_of p.0))
+weight_gap p q = 2 * ((partition_weight p.0 - partition_weight q.0) + (partition_weight q.0 - partition_weight p.0))
 
 -- the distances of each pair, and of each two pairs at different places
 abbrev pub distances : List Factors → List ℕ

@@ -7,7 +7,7 @@ ghost use Rattle.ct_words.specs.Entry.{IsEntry};
 ghost use Rattle.ct_words.specs.Pairs.{first_of};
 ghost use Rattle.ct_words.specs.declared.fault.TheConstants.{MAX_WORDS};
 ghost use Rattle.ct_classes.specs.Partition.{word_lists, words_of_classes, IsSoundPartition};
-ghost use Rattle.ct_partitions.specs.Check.{class_at, counted, wrong_count, weight_fault, repeated_fault, close_fault, partition_fault};
+ghost use Rattle.ct_partitions.specs.Check.{class_at, counted, wrong_count, partition_weight_fault, partition_repeated_fault, partition_close_fault, partition_fault};
 
 use crate::close::first_close_places;
 use ct_classes::{MAX_CLASSES, Partition, PartitionFault};
@@ -128,7 +128,7 @@ fn joined(alloc: Global, classes: &[Vec<Word>]) -> Result<Vec<Word>, AllocError>
 
 /// The first word of another weight, where a weight is given.
 fn weight_fault(words: &[Word], w: Option<u32>) -> Option<PartitionFault>
-    ensures { (n : ℕ) → All (λ x. x < 2 ^ n) words.now → result ≡ weight_fault n w words.now }
+    ensures { (n : ℕ) → All (λ x. x < 2 ^ n) words.now → result ≡ partition_weight_fault n w words.now }
 {
     let w = w?;
     let place = first_of_other_weight(words, w)?;
@@ -148,7 +148,7 @@ fn pair_fault(words: &[Word], classes: &[Vec<Word>], d: u32, between: u32) -> Op
     requires some { 1 ≤ between }
     requires nearer { between ≤ d }
     ensures { (n : ℕ) → All (λ x. x < 2 ^ n) words.now →
-        result ≡ first_of (repeated_fault words.now) (close_fault n d between (word_lists classes.now)) }
+        result ≡ first_of (partition_repeated_fault words.now) (partition_close_fault n d between (word_lists classes.now)) }
 {
     let (i, j) = first_close_places(words, classes, d, between)?;
     if let Some((first, again)) = first_close_pair(words, 1) {

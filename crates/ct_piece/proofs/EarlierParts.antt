@@ -7,7 +7,7 @@ use Rattle.std.proofs.lemmas.List.Elements.{All-head, All-tail}
 use Rattle.std.proofs.lemmas.Option.{none-some, same_Some, slice_get_within, get_or_from_slice_get}
 use Rattle.std.proofs.lemmas.Slice.Eq.{bytes_eq-Decides}
 use Rattle.ct_kind.specs.Named.{is_known}
-use Rattle.ct_files.specs.ByKind.{parts_of, names}
+use Rattle.ct_files.specs.ByKind.{ids_of_parts, names}
 use Rattle.ct_piece.specs.Piece.{PieceValue, has_id}
 use Rattle.ct_piece.specs.Codes.{codes_of}
 use Rattle.ct_piece.specs.Standing.{AreStanding}
@@ -52,8 +52,8 @@ pub part_before : (ps : List PieceValue) (k : ℕ) (p : PieceValue) (part : List
 part_before ps k p part h is named =
     let within = slice_get_within ps k p is in
     let right = subst (λ (r : PieceValue). IsRight (codes_of (take k ps)) r.evidence) (get_or_from_slice_get ps k p p is) (right_at ps k p h.made within) in
-    let known = none_missing (codes_of (take k ps)) (parts_of p.evidence) (right-parts (codes_of (take k ps)) p.evidence right) in
-    let there = named_part (λ (id : List ℕ). is_known id (codes_of (take k ps)) ≡ true) (parts_of p.evidence) part known named in
+    let known = none_missing (codes_of (take k ps)) (ids_of_parts p.evidence) (right-parts (codes_of (take k ps)) p.evidence right) in
+    let there = named_part (λ (id : List ℕ). is_known id (codes_of (take k ps)) ≡ true) (ids_of_parts p.evidence) part known named in
     sym (known_where_taken part [] (take k ps)) ∙ there
 
 -- a piece that another one names is before it

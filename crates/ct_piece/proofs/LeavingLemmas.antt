@@ -9,7 +9,7 @@ use Rattle.ct_words.specs.Code.{CodeValue}
 use Rattle.ct_words.specs.Pairs.{first_of}
 use Rattle.ct_kind.specs.declared.evidence.Evidence.{Evidence}
 use Rattle.ct_kind.specs.Named.{NamedCode, is_known, first_missing, code_named, partition_named}
-use Rattle.ct_files.specs.ByKind.{kind_of, stated_entry, parts_of, names}
+use Rattle.ct_files.specs.ByKind.{kind_of, stated_entry, ids_of_parts, names}
 use Rattle.ct_piece.specs.Piece.{PieceValue, first_user}
 use Rattle.ct_kind.specs.Ascending.{code_at}
 use Rattle.ct_piece.specs.Codes.{named_code, codes_after, codes_of}
@@ -86,28 +86,28 @@ those-missing test known (part ∷ parts) h =
     (those-missing test known parts (AllPassed-tail test part parts h))
 
 -- evidence all of whose parts pass says the same
-those-same : (test : List ℕ → Bool) (known : List NamedCode) (evidence : Evidence) → AllPassed test (parts_of evidence) → SaysSame (kind_of evidence) (those test known) known
+those-same : (test : List ℕ → Bool) (known : List NamedCode) (evidence : Evidence) → AllPassed test (ids_of_parts evidence) → SaysSame (kind_of evidence) (those test known) known
 those-same test known evidence h = kind_same evidence (those test known) known (λ part is. those-alike test part known (h part is))
 
-those-reason : (test : List ℕ → Bool) (known : List NamedCode) (evidence : Evidence) → AllPassed test (parts_of evidence)
+those-reason : (test : List ℕ → Bool) (known : List NamedCode) (evidence : Evidence) → AllPassed test (ids_of_parts evidence)
     → evidence_reason (those test known) evidence ≡ evidence_reason known evidence
 those-reason test known evidence h =
-    ap₂ (λ (missing : Option (List ℕ)) (own : Option SubmitFault). first_of (option_map fault.NoSuch missing) own) (those-missing test known (parts_of evidence) h)
+    ap₂ (λ (missing : Option (List ℕ)) (own : Option SubmitFault). first_of (option_map fault.NoSuch missing) own) (those-missing test known (ids_of_parts evidence) h)
     (those-same test known evidence h).reason
 
 -- it makes the same piece
-those-made : (test : List ℕ → Bool) (known : List NamedCode) (p : PieceValue) → AllPassed test (parts_of p.evidence) → IsMade known p → IsMade (those test known) p
+those-made : (test : List ℕ → Bool) (known : List NamedCode) (p : PieceValue) → AllPassed test (ids_of_parts p.evidence) → IsMade known p → IsMade (those test known) p
 those-made test known p passed h =
     let m = making-of known p h in
     let evidence = m.stated.evidence in
-    let own = subst (λ (e : Evidence). AllPassed test (parts_of e)) (ap (λ (q : PieceValue). q.evidence) (sym m.piece)) passed in
+    let own = subst (λ (e : Evidence). AllPassed test (ids_of_parts e)) (ap (λ (q : PieceValue). q.evidence) (sym m.piece)) passed in
     let sized : Option ℕ → PieceValue = λ (size : Option ℕ). record { id = p.id; document = p.document; evidence = evidence; cites = m.stated.cites; entry = stated_entry evidence; size = size } in
     ap (piece_from (those test known) p.id p.document) m.is
     ∙ ap₂ (λ (reason : Option SubmitFault) (size : Option ℕ). made_unless reason (sized size)) (those-reason test known evidence own ∙ m.faultless) (those-same test known evidence own).size
     ∙ ap Ok m.piece
 
 -- and has the same code
-those-code : (test : List ℕ → Bool) (known : List NamedCode) (p : PieceValue) → AllPassed test (parts_of p.evidence) → named_code (those test known) p ≡ named_code known p
+those-code : (test : List ℕ → Bool) (known : List NamedCode) (p : PieceValue) → AllPassed test (ids_of_parts p.evidence) → named_code (those test known) p ≡ named_code known p
 those-code test known p passed =
     let at : Option (List ℕ) → NamedCode = λ (words : Option (List ℕ)). record { id = p.id; code = option_map (code_at (stated_entry p.evidence)) words; partition = (kind_of p.evidence).partition } in
     ap at (those-same test known p.evidence passed).words
@@ -119,7 +119,7 @@ those-push test known k = filter-append (λ (l : NamedCode). test l.id) known (k
 -- the parts of each piece whose id passes the test pass it
 abbrev pub ArePassed : (List ℕ → Bool) → List PieceValue → Type 0
 ArePassed test [] = Unit {0}
-ArePassed test (p ∷ ps) = (test p.id ≡ true → AllPassed test (parts_of p.evidence)) × ArePassed test ps
+ArePassed test (p ∷ ps) = (test p.id ≡ true → AllPassed test (ids_of_parts p.evidence)) × ArePassed test ps
 
 -- the pieces whose ids pass
 abbrev pub passing : (List ℕ → Bool) → List PieceValue → List PieceValue

@@ -6,7 +6,7 @@ use Rattle.ct_files.specs.Document.{DocumentValue, document_read_of}
 use Rattle.ct_kind.specs.Named.{NamedCode, first_missing}
 use Rattle.ct_kind.specs.declared.fault.SubmitFault.{SubmitFault}
 use Rattle.ct_kind.specs.declared.fault.SubmitFault.TheVariants.{FullPieces, NoSuch, FullWords, Memory}
-use Rattle.ct_files.specs.ByKind.{parts_of, own_reason}
+use Rattle.ct_files.specs.ByKind.{ids_of_parts, own_reason}
 use Rattle.ct_piece.specs.Piece.{PieceValue, has_id, stored_by, stored_words}
 use Rattle.ct_piece.specs.Codes.{codes_of}
 use Rattle.ct_piece.specs.Submission.{made_unless, piece_of, made_of, piece_from, stored_beside, unless_full, submitted}
@@ -16,7 +16,7 @@ use Rattle.ct_files.proofs.OwnReasons.{reason-own}
 -- what is made of a document that was read
 made-memory : (known : List NamedCode) (id document : List ℕ) (stated : DocumentValue) → made_of known id document stated ≢ Err Memory
 made-memory known id document stated =
-    at (first_missing known (parts_of stated.evidence)) (own_reason known stated.evidence) refl
+    at (first_missing known (ids_of_parts stated.evidence)) (own_reason known stated.evidence) refl
   where
     at : (missing : Option (List ℕ)) (own : Option SubmitFault) → own_reason known stated.evidence ≡ own
         → made_unless (first_of (option_map NoSuch missing) own) (piece_of known id document stated) ≢ Err Memory

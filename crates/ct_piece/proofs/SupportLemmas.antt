@@ -21,7 +21,7 @@ use Rattle.ct_piece.specs.Withdrawal.{without, withdrawn, unless_used}
 use Rattle.ct_piece.specs.declared.fault.WithdrawFault.TheVariants as fault
 use Rattle.ct_files.specs.ByKind.{kept_over}
 use Rattle.ct_piece.specs.Inside.Kept.{kept_codes}
-use Rattle.ct_piece.specs.Piece.{place_of}
+use Rattle.ct_piece.specs.Piece.{place_of_id}
 use Rattle.ct_piece.proofs.CodeLemmas.{is_named, AreMade-front, AreMade-back}
 use Rattle.ct_kind.specs.Sound.{AreSound, HasSoundCode}
 use Rattle.ct_kind.proofs.Stating.{option_map-none}
@@ -136,8 +136,8 @@ pub record IsPlaceOf (id : List ℕ) (ps : List PieceValue) (k : ℕ) : Type 0 w
   pub named : has_id id ps ≡ true
   pub left : without id ps ≡ remove ps k
 
-pub place_of-some : (id : List ℕ) (ps : List PieceValue) (k : ℕ) → AreDifferent ps → place_of id ps ≡ Some k → IsPlaceOf id ps k
-place_of-some id ps k h is = at (nat_lt (position_or_len (is_named id) ps) (length ps)) refl is where
+pub place_of_id-some : (id : List ℕ) (ps : List PieceValue) (k : ℕ) → AreDifferent ps → place_of_id id ps ≡ Some k → IsPlaceOf id ps k
+place_of_id-some id ps k h is = at (nat_lt (position_or_len (is_named id) ps) (length ps)) refl is where
   at : (b : Bool) → nat_lt (position_or_len (is_named id) ps) (length ps) ≡ b → cond b (Some (position_or_len (is_named id) ps)) None ≡ Some k → IsPlaceOf id ps k
   at true e same =
       let within = ltb-true (position_or_len (is_named id) ps) (length ps) e in
@@ -146,27 +146,27 @@ place_of-some id ps k h is = at (nat_lt (position_or_len (is_named id) ps) (leng
   at false e same = absurd cc
 
 -- whether a piece has an id shows in the place of the first with it
-pub place_of-found : (id : List ℕ) (ps : List PieceValue) (k : ℕ) → place_of id ps ≡ Some k → has_id id ps ≡ true
-place_of-found id ps k is = at (nat_lt (position_or_len (is_named id) ps) (length ps)) refl is where
+pub place_of_id-found : (id : List ℕ) (ps : List PieceValue) (k : ℕ) → place_of_id id ps ≡ Some k → has_id id ps ≡ true
+place_of_id-found id ps k is = at (nat_lt (position_or_len (is_named id) ps) (length ps)) refl is where
   at : (b : Bool) → nat_lt (position_or_len (is_named id) ps) (length ps) ≡ b → cond b (Some (position_or_len (is_named id) ps)) None ≡ Some k → has_id id ps ≡ true
   at true e same = has_id-found id ps (ltb-true (position_or_len (is_named id) ps) (length ps) e)
   at false e same = absurd cc
 
-pub place_of-none : (id : List ℕ) (ps : List PieceValue) → place_of id ps ≡ None → has_id id ps ≡ false
-place_of-none id ps is = at (nat_lt (position_or_len (is_named id) ps) (length ps)) refl is where
+pub place_of_id-none : (id : List ℕ) (ps : List PieceValue) → place_of_id id ps ≡ None → has_id id ps ≡ false
+place_of_id-none id ps is = at (nat_lt (position_or_len (is_named id) ps) (length ps)) refl is where
   at : (b : Bool) → nat_lt (position_or_len (is_named id) ps) (length ps) ≡ b → cond b (Some (position_or_len (is_named id) ps)) None ≡ None → has_id id ps ≡ false
   at true e same = absurd cc
   at false e same = has_id-missing id ps (ltb-false (position_or_len (is_named id) ps) (length ps) e)
 
 -- what a withdrawal comes to: no piece has the id, another names it, or the piece at its place goes
-pub withdrawn-missing : (id : List ℕ) (ps : List PieceValue) → place_of id ps ≡ None → withdrawn ps id ≡ Err fault.NoSuch
+pub withdrawn-missing : (id : List ℕ) (ps : List PieceValue) → place_of_id id ps ≡ None → withdrawn ps id ≡ Err fault.NoSuch
 unfolding withdrawn
-withdrawn-missing id ps is = ap (λ (b : Bool). cond b (unless_used (first_user id ps) (without id ps)) (Err fault.NoSuch)) (place_of-none id ps is)
+withdrawn-missing id ps is = ap (λ (b : Bool). cond b (unless_used (first_user id ps) (without id ps)) (Err fault.NoSuch)) (place_of_id-none id ps is)
 
-named-withdrawn : (id : List ℕ) (ps : List PieceValue) (k : ℕ) → AreDifferent ps → place_of id ps ≡ Some k → withdrawn ps id ≡ unless_used (first_user id ps) (remove ps k)
+named-withdrawn : (id : List ℕ) (ps : List PieceValue) (k : ℕ) → AreDifferent ps → place_of_id id ps ≡ Some k → withdrawn ps id ≡ unless_used (first_user id ps) (remove ps k)
 unfolding withdrawn
 named-withdrawn id ps k h is =
-    let place = place_of-some id ps k h is in
+    let place = place_of_id-some id ps k h is in
     ap (λ (b : Bool). cond b (unless_used (first_user id ps) (without id ps)) (Err fault.NoSuch)) place.named
     ∙ ap (unless_used (first_user id ps)) place.left
 
@@ -174,11 +174,11 @@ used-id : (o : Option PieceValue) (user : List ℕ) (rest : List PieceValue) →
 used-id None user rest h = absurd cc
 used-id (Some p) user rest h = let same : p.id ≡ user = cc in ap (λ (i : List ℕ). Err (fault.InUse i)) same
 
-pub withdrawn-used : (id : List ℕ) (ps : List PieceValue) (k : ℕ) (user : List ℕ) → AreDifferent ps → place_of id ps ≡ Some k → option_map (λ (p : PieceValue). p.id) (first_user id ps) ≡ Some user
+pub withdrawn-used : (id : List ℕ) (ps : List PieceValue) (k : ℕ) (user : List ℕ) → AreDifferent ps → place_of_id id ps ≡ Some k → option_map (λ (p : PieceValue). p.id) (first_user id ps) ≡ Some user
     → withdrawn ps id ≡ Err (fault.InUse user)
 withdrawn-used id ps k user h is used = named-withdrawn id ps k h is ∙ used-id (first_user id ps) user (remove ps k) used
 
-pub withdrawn-left : (id : List ℕ) (ps : List PieceValue) (k : ℕ) → AreDifferent ps → place_of id ps ≡ Some k → option_map (λ (p : PieceValue). p.id) (first_user id ps) ≡ None
+pub withdrawn-left : (id : List ℕ) (ps : List PieceValue) (k : ℕ) → AreDifferent ps → place_of_id id ps ≡ Some k → option_map (λ (p : PieceValue). p.id) (first_user id ps) ≡ None
     → withdrawn ps id ≡ Ok (remove ps k)
 withdrawn-left id ps k h is free =
     named-withdrawn id ps k h is
@@ -192,9 +192,9 @@ pub record IsLeft (id : List ℕ) (ps : List PieceValue) (k : ℕ) : Type 0 wher
   pub kept : kept_codes (remove ps k) ≡ remove (kept_codes ps) k
   pub stored : (d : PieceValue) → stored_words (remove ps k) + stored_by (get_or ps k d) ≡ stored_words ps
 
-pub left_standing : (id : List ℕ) (ps : List PieceValue) (k : ℕ) → AreStanding ps → place_of id ps ≡ Some k → option_map (λ (p : PieceValue). p.id) (first_user id ps) ≡ None → IsLeft id ps k
+pub left_standing : (id : List ℕ) (ps : List PieceValue) (k : ℕ) → AreStanding ps → place_of_id id ps ≡ Some k → option_map (λ (p : PieceValue). p.id) (first_user id ps) ≡ None → IsLeft id ps k
 left_standing id ps k h is free =
-    let place = place_of-some id ps k h.different is in
+    let place = place_of_id-some id ps k h.different is in
     let none = option_map-none (λ (p : PieceValue). p.id) (first_user id ps) free in
     let long : length (supports_of ps) ≡ length ps = length-map ps support_of in
     let within = place.within in
@@ -250,8 +250,8 @@ taken_back ps h some =
     }
 
 -- there are not too many places
-pub place_of-few : (id : List ℕ) (ps : List PieceValue) (o : Option ℕ) → AreStanding ps → place_of id ps ≡ o → IfSome o (λ k. k < MAX_PIECES)
-place_of-few id ps None h is = tt
-place_of-few id ps (Some k) h is =
-    let place = place_of-some id ps k h.different is in
+pub place_of_id-few : (id : List ℕ) (ps : List PieceValue) (o : Option ℕ) → AreStanding ps → place_of_id id ps ≡ o → IfSome o (λ k. k < MAX_PIECES)
+place_of_id-few id ps None h is = tt
+place_of_id-few id ps (Some k) h is =
+    let place = place_of_id-some id ps k h.different is in
     omega (arith, place.within, h.few)

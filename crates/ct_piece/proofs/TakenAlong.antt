@@ -4,10 +4,10 @@ use Rattle.std.specs.Prelude.{slice_get, Result}
 use Rattle.std.specs.Str.{bytes_eq}
 use Rattle.std.proofs.lemmas.Option.{none-some, same_Some}
 use Rattle.std.proofs.lemmas.Slice.Eq.{bytes_eq-Decides}
-use Rattle.ct_files.specs.ByKind.{parts_of, names}
+use Rattle.ct_files.specs.ByKind.{ids_of_parts, names}
 use Rattle.ct_piece.specs.Piece.{PieceValue, has_id}
 use Rattle.ct_piece.specs.Standing.{AreStanding}
-use Rattle.ct_piece.specs.Withdrawal.{IsTakenAlong, names_any, ids_along, taken_along, is_among, without_all, withdrawn_all, left_by}
+use Rattle.ct_piece.specs.Withdrawal.{IsTakenAlong, names_any, ids_along, taken_along, is_id_among, without_all, withdrawn_all, left_by}
 use Rattle.ct_piece.specs.Withdrawal.IsTakenAlong.{itself, by_part}
 use Rattle.ct_piece.specs.declared.fault.WithdrawFault.{WithdrawFault}
 use Rattle.ct_piece.specs.declared.fault.WithdrawFault.TheVariants as fault
@@ -19,17 +19,17 @@ use Rattle.ct_piece.proofs.AlongLemmas.{among-cases, along-keeps, along_passed, 
 
 -- one of the ids that a piece names
 names_any-at : (ids : List (List ℕ)) (p : PieceValue) → names_any ids p ≡ true
-    → (part : List ℕ) × (is_among ids part ≡ true) × (names p.evidence part ≡ true)
+    → (part : List ℕ) × (is_id_among ids part ≡ true) × (names p.evidence part ≡ true)
 names_any-at [] p h = absurd cc
 names_any-at (i ∷ ids) p h = at (names p.evidence i) refl h (names_any-at ids p) where
-  later : (b : Bool) (part : List ℕ) → is_among ids part ≡ true → (b || is_among ids part) ≡ true
+  later : (b : Bool) (part : List ℕ) → is_id_among ids part ≡ true → (b || is_id_among ids part) ≡ true
   later true part there = refl
   later false part there = there
 
   at : (b : Bool) → names p.evidence i ≡ b → (b || names_any ids p) ≡ true
-      → (names_any ids p ≡ true → (part : List ℕ) × (is_among ids part ≡ true) × (names p.evidence part ≡ true))
-      → (part : List ℕ) × (is_among (i ∷ ids) part ≡ true) × (names p.evidence part ≡ true)
-  at true named h rest = (i, ap (λ (b : Bool). b || is_among ids i) ((bytes_eq-Decides i i).1 refl), named)
+      → (names_any ids p ≡ true → (part : List ℕ) × (is_id_among ids part ≡ true) × (names p.evidence part ≡ true))
+      → (part : List ℕ) × (is_id_among (i ∷ ids) part ≡ true) × (names p.evidence part ≡ true)
+  at true named h rest = (i, ap (λ (b : Bool). b || is_id_among ids i) ((bytes_eq-Decides i i).1 refl), named)
   at false named h rest = let found = rest h in (found.0, later (bytes_eq i found.0) found.0 found.1, found.2)
 
 pub has_id-take : (id : List ℕ) (ps : List PieceValue) (k : ℕ) → has_id id (take k ps) ≡ true → has_id id ps ≡ true
@@ -42,16 +42,16 @@ has_id-take id (p ∷ ps) (suc k) h = at (bytes_eq p.id id) h (has_id-take id ps
   at false h rest = rest h
 
 ArePassed-at : (test : List ℕ → Bool) (ps : List PieceValue) (i : ℕ) (p : PieceValue) → ArePassed test ps → slice_get ps i ≡ Some p
-    → test p.id ≡ true → AllPassed test (parts_of p.evidence)
+    → test p.id ≡ true → AllPassed test (ids_of_parts p.evidence)
 ArePassed-at test [] i p all at = absurd (none-some p at)
 ArePassed-at test (q ∷ ps) zero p all at =
-    subst (λ (r : PieceValue). test r.id ≡ true → AllPassed test (parts_of r.evidence)) (same_Some q p at) all.0
+    subst (λ (r : PieceValue). test r.id ≡ true → AllPassed test (ids_of_parts r.evidence)) (same_Some q p at) all.0
 ArePassed-at test (q ∷ ps) (suc i) p all at = ArePassed-at test ps i p all.1 at
 
 module _ (pieces : List PieceValue) (id : List ℕ) (h : AreStanding pieces) where
   -- the pieces of these ids are taken along
   abbrev Go : List (List ℕ) → Type 0
-  Go ids = (i : ℕ) (q : PieceValue) → slice_get pieces i ≡ Some q → is_among ids q.id ≡ true → IsTakenAlong pieces id i
+  Go ids = (i : ℕ) (q : PieceValue) → slice_get pieces i ≡ Some q → is_id_among ids q.id ≡ true → IsTakenAlong pieces id i
 
   user_goes : (ids : List (List ℕ)) (p : PieceValue) (k : ℕ) → slice_get pieces k ≡ Some p → Go ids → names_any ids p ≡ true → IsTakenAlong pieces id k
   user_goes ids p k at go user =
@@ -59,11 +59,11 @@ module _ (pieces : List PieceValue) (id : List ℕ) (h : AreStanding pieces) whe
       let stands = has_id-take part.0 pieces k (part_before pieces k p part.0 h at part.2) in
       let found = has_id-at part.0 pieces stands in
       by_part k found.0 p found.1 at found.2 (subst (λ (i : List ℕ). names p.evidence i ≡ true) (sym found.3) part.2)
-      (go found.0 found.1 found.2 (subst (λ (i : List ℕ). is_among ids i ≡ true) (sym found.3) part.1))
+      (go found.0 found.1 found.2 (subst (λ (i : List ℕ). is_id_among ids i ≡ true) (sym found.3) part.1))
 
   one_more : (ids : List (List ℕ)) (p : PieceValue) (k : ℕ) → slice_get pieces k ≡ Some p → Go ids → names_any ids p ≡ true → Go (ids ++ p.id ∷ [])
   one_more ids p k at go user i q there among = of (among-cases ids p.id q.id among) where
-    of : (is_among ids q.id ≡ true) ⊎ (p.id ≡ q.id) → IsTakenAlong pieces id i
+    of : (is_id_among ids q.id ≡ true) ⊎ (p.id ≡ q.id) → IsTakenAlong pieces id i
     of (inl before) = go i q there before
     of (inr same) = subst (IsTakenAlong pieces id) (one_place pieces k i p q h.different at there same) (user_goes ids p k at go user)
 
@@ -94,26 +94,26 @@ module _ (pieces : List PieceValue) (id : List ℕ) (h : AreStanding pieces) whe
       along_goes 0 (id ∷ []) pieces (λ j. let same : j ≡ 0 + j = omega arith in ap (slice_get pieces) same) first_goes
 
   -- and no others are
-  goes_along : (i : ℕ) → IsTakenAlong pieces id i → (q : PieceValue) → slice_get pieces i ≡ Some q → is_among (taken_along pieces id) q.id ≡ true
+  goes_along : (i : ℕ) → IsTakenAlong pieces id i → (q : PieceValue) → slice_get pieces i ≡ Some q → is_id_among (taken_along pieces id) q.id ≡ true
   goes_along i (itself _ p there own) q at =
       let same : q.id ≡ id = ap (λ (r : PieceValue). r.id) (same_Some q p (sym at ∙ there)) ∙ own in
       along-keeps pieces (id ∷ []) q.id
-      (ap (λ (j : List ℕ). is_among (id ∷ []) j) same ∙ ap (λ (b : Bool). b || false) ((bytes_eq-Decides id id).1 refl))
+      (ap (λ (j : List ℕ). is_id_among (id ∷ []) j) same ∙ ap (λ (b : Bool). b || false) ((bytes_eq-Decides id id).1 refl))
   goes_along i (by_part _ j p r there at_part named rest) q at =
-      of (is_among (taken_along pieces id) q.id) refl (goes_along j rest r at_part)
+      of (is_id_among (taken_along pieces id) q.id) refl (goes_along j rest r at_part)
     where
       same : p ≡ q
       same = same_Some p q (sym there ∙ at)
 
-      of : (b : Bool) → is_among (taken_along pieces id) q.id ≡ b → is_among (taken_along pieces id) r.id ≡ true → b ≡ true
+      of : (b : Bool) → is_id_among (taken_along pieces id) q.id ≡ b → is_id_among (taken_along pieces id) r.id ≡ true → b ≡ true
       of true is part = refl
       of false is part =
-          let passed = ArePassed-at (λ i. not (is_among (taken_along pieces id) i)) pieces i q (along_passed pieces id h) at (ap not is) in
+          let passed = ArePassed-at (λ i. not (is_id_among (taken_along pieces id) i)) pieces i q (along_passed pieces id h) at (ap not is) in
           let stays = passed r.id (subst (λ (s : PieceValue). names s.evidence r.id ≡ true) same named) in
           absurd (let both = sym stays ∙ ap not part in cc)
 
 pub taken_are_along : (pieces : List PieceValue) (id : List ℕ) (i : ℕ) (p : PieceValue) → AreStanding pieces → slice_get pieces i ≡ Some p
-    → (is_among (taken_along pieces id) p.id ≡ true) ↔ IsTakenAlong pieces id i
+    → (is_id_among (taken_along pieces id) p.id ≡ true) ↔ IsTakenAlong pieces id i
 taken_are_along pieces id i p h at = (taken_goes pieces id h i p at, λ along. goes_along pieces id h i along p at)
 
 -- it is the least such set

@@ -22,8 +22,8 @@ abbrev pub has_id : List ℕ → List PieceValue → Bool
 has_id id pieces = list_any (λ p. bytes_eq p.id id) pieces
 
 -- the place of the first piece with the id, where there is one
-abbrev pub place_of : List ℕ → List PieceValue → Option ℕ
-place_of id pieces = position (λ p. bytes_eq p.id id) pieces
+abbrev pub place_of_id : List ℕ → List PieceValue → Option ℕ
+place_of_id id pieces = position (λ p. bytes_eq p.id id) pieces
 
 -- how many words a piece stores
 abbrev pub stored_by : PieceValue → ℕ

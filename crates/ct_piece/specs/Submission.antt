@@ -4,7 +4,7 @@ use Rattle.ct_words.specs.Code.{IsCodeOf}
 use Rattle.ct_fields.specs.declared.fault.DocumentFault.{DocumentFault}
 use Rattle.ct_files.specs.Document.{DocumentValue, document_read_of}
 use Rattle.ct_kind.specs.Named.{NamedCode}
-use Rattle.ct_files.specs.ByKind.{stated_entry, parts_of, words_over, size_over, evidence_reason, IsChecked}
+use Rattle.ct_files.specs.ByKind.{stated_entry, ids_of_parts, words_over, size_over, evidence_reason, IsChecked}
 use Rattle.ct_piece.specs.Piece.{PieceValue, has_id, stored_by, stored_words}
 use Rattle.ct_piece.specs.Codes.{codes_of}
 use Rattle.ct_piece.specs.declared.limits.TheConstants.{MAX_PIECES, MAX_STORED}
@@ -67,7 +67,7 @@ pub record IsAccepted (pieces : List PieceValue) (id document : List ℕ) (p : P
   pub room : length pieces < MAX_PIECES
   pub stated : DocumentValue
   pub read : document_read_of document ≡ Ok stated
-  pub parts : All (Contains (map (λ q. q.id) pieces)) (parts_of stated.evidence)
+  pub parts : All (Contains (map (λ q. q.id) pieces)) (ids_of_parts stated.evidence)
   pub checked : IsChecked (codes_of pieces) stated.evidence
   pub code : IfSome (words_over (codes_of pieces) stated.evidence) (IsCodeOf (stated_entry stated.evidence))
   pub small : stored_words pieces + stored_by p ≤ MAX_STORED

@@ -45,12 +45,12 @@ abbrev pub taken_along : List PieceValue → List ℕ → List (List ℕ)
 taken_along pieces id = ids_along (id ∷ []) pieces
 
 -- whether an id is one of these
-abbrev pub is_among : List (List ℕ) → List ℕ → Bool
-is_among ids id = list_any (λ i. bytes_eq i id) ids
+abbrev pub is_id_among : List (List ℕ) → List ℕ → Bool
+is_id_among ids id = list_any (λ i. bytes_eq i id) ids
 
 -- the pieces but for those with these ids, in their order
 abbrev pub without_all : List (List ℕ) → List PieceValue → List PieceValue
-without_all ids pieces = filter (λ p. not (is_among ids p.id)) pieces
+without_all ids pieces = filter (λ p. not (is_id_among ids p.id)) pieces
 
 -- what a withdrawal with all that rests on a piece leaves: the other pieces in their order, where a piece has the id
 unfoldable pub withdrawn_all : List PieceValue → List ℕ → Result (List PieceValue) WithdrawFault
@@ -58,4 +58,4 @@ withdrawn_all pieces id = if has_id id pieces then Ok (without_all (taken_along 
 
 -- for each piece, whether it goes with the piece of the id
 abbrev pub marks_along : List PieceValue → List ℕ → List Bool
-marks_along pieces id = map (λ p. is_among (taken_along pieces id) p.id) pieces
+marks_along pieces id = map (λ p. is_id_among (taken_along pieces id) p.id) pieces

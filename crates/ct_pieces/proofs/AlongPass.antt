@@ -6,10 +6,10 @@ use Rattle.std.specs.Str.{bytes_eq}
 use Rattle.std.proofs.lemmas.List.Folds.{list_any_more}
 use Rattle.std.proofs.lemmas.Option.{same_Some, get_or_from_slice_get}
 use Rattle.std.proofs.lemmas.Slice.Eq.{bytes_eq-Decides}
-use Rattle.ct_files.specs.ByKind.{parts_of, names}
+use Rattle.ct_files.specs.ByKind.{ids_of_parts, names}
 use Rattle.ct_piece.specs.Piece.{PieceValue, has_id}
 use Rattle.ct_piece.specs.Standing.{AreStanding}
-use Rattle.ct_piece.specs.Withdrawal.{IsTakenAlong, taken_along, is_among}
+use Rattle.ct_piece.specs.Withdrawal.{IsTakenAlong, taken_along, is_id_among}
 use Rattle.ct_piece.specs.Withdrawal.IsTakenAlong.{itself, by_part}
 use Rattle.ct_piece.proofs.EarlierParts.{part_before}
 use Rattle.ct_piece.proofs.AlongLemmas.{has_id-at}
@@ -68,10 +68,10 @@ any_named test (i ∷ ids) id named h =
 
 -- after the first k pieces the names are those of the pieces among them that go
 pub record AreGone (pieces : List PieceValue) (id : List ℕ) (held : List ℕ → Bool) (k : ℕ) : Type 0 where
-  pub are : (q : List ℕ) → held q ≡ (is_among (taken_along pieces id) q && has_id q (take k pieces))
+  pub are : (q : List ℕ) → held q ≡ (is_id_among (taken_along pieces id) q && has_id q (take k pieces))
 
 pub AreGone-none : (pieces : List PieceValue) (id : List ℕ) (held : List ℕ → Bool) → ((q : List ℕ) → held q ≡ false) → AreGone pieces id held 0
-AreGone-none pieces id held none = record { are = λ q. none q ∙ at (is_among (taken_along pieces id) q) } where
+AreGone-none pieces id held none = record { are = λ q. none q ∙ at (is_id_among (taken_along pieces id) q) } where
   at : (b : Bool) → false ≡ (b && false)
   at true = refl
   at false = refl
@@ -79,34 +79,34 @@ AreGone-none pieces id held none = record { are = λ q. none q ∙ at (is_among 
 module _ (pieces : List PieceValue) (id : List ℕ) (held : List ℕ → Bool) (k : ℕ) (p : PieceValue) (h : AreStanding pieces)
     (here : slice_get pieces k ≡ Some p) (gone : AreGone pieces id held k) where
   -- a part that goes is among the names
-  held_part : (q : PieceValue) → names p.evidence q.id ≡ true → is_among (taken_along pieces id) q.id ≡ true → held q.id ≡ true
+  held_part : (q : PieceValue) → names p.evidence q.id ≡ true → is_id_among (taken_along pieces id) q.id ≡ true → held q.id ≡ true
   held_part q named out =
-      gone.are q.id ∙ both_true (is_among (taken_along pieces id) q.id) (has_id q.id (take k pieces)) out (part_before pieces k p q.id h here named)
+      gone.are q.id ∙ both_true (is_id_among (taken_along pieces id) q.id) (has_id q.id (take k pieces)) out (part_before pieces k p q.id h here named)
 
-  of_taken : IsTakenAlong pieces id k → (bytes_eq p.id id || list_any held (parts_of p.evidence)) ≡ true
+  of_taken : IsTakenAlong pieces id k → (bytes_eq p.id id || list_any held (ids_of_parts p.evidence)) ≡ true
   of_taken (itself _ own at is) =
       let same : p.id ≡ id = ap (λ (r : PieceValue). r.id) (same_Some p own (sym here ∙ at)) ∙ is in
-      either_first (bytes_eq p.id id) (list_any held (parts_of p.evidence)) ((bytes_eq-Decides p.id id).1 same)
+      either_first (bytes_eq p.id id) (list_any held (ids_of_parts p.evidence)) ((bytes_eq-Decides p.id id).1 same)
   of_taken (by_part _ j own q at there named rest) =
       let same : own ≡ p = same_Some own p (sym at ∙ here) in
       let named_here = subst (λ (r : PieceValue). names r.evidence q.id ≡ true) same named in
       let out = (taken_are_along pieces id j q h there).1 rest in
-      either_second (bytes_eq p.id id) (list_any held (parts_of p.evidence))
-      (any_named held (parts_of p.evidence) q.id named_here (held_part q named_here out))
+      either_second (bytes_eq p.id id) (list_any held (ids_of_parts p.evidence))
+      (any_named held (ids_of_parts p.evidence) q.id named_here (held_part q named_here out))
 
-  to_taken : (bytes_eq p.id id || list_any held (parts_of p.evidence)) ≡ true → IsTakenAlong pieces id k
-  to_taken is = of (of_either (bytes_eq p.id id) (list_any held (parts_of p.evidence)) is) where
-    of : (bytes_eq p.id id ≡ true) ⊎ (list_any held (parts_of p.evidence) ≡ true) → IsTakenAlong pieces id k
+  to_taken : (bytes_eq p.id id || list_any held (ids_of_parts p.evidence)) ≡ true → IsTakenAlong pieces id k
+  to_taken is = of (of_either (bytes_eq p.id id) (list_any held (ids_of_parts p.evidence)) is) where
+    of : (bytes_eq p.id id ≡ true) ⊎ (list_any held (ids_of_parts p.evidence) ≡ true) → IsTakenAlong pieces id k
     of (inl own) = itself k p here ((bytes_eq-Decides p.id id).0 own)
     of (inr part) =
-        let found = any_at held (parts_of p.evidence) part in
-        let among = of_both (is_among (taken_along pieces id) found.0) (has_id found.0 (take k pieces)) (sym (gone.are found.0) ∙ found.1) in
+        let found = any_at held (ids_of_parts p.evidence) part in
+        let among = of_both (is_id_among (taken_along pieces id) found.0) (has_id found.0 (take k pieces)) (sym (gone.are found.0) ∙ found.1) in
         let there = has_id-at found.0 pieces (has_id-take found.0 pieces k among.1) in
         by_part k there.0 p there.1 here there.2 (subst (λ (i : List ℕ). names p.evidence i ≡ true) (sym there.3) found.2)
-        ((taken_are_along pieces id there.0 there.1 h there.2).0 (subst (λ (i : List ℕ). is_among (taken_along pieces id) i ≡ true) (sym there.3) among.0))
+        ((taken_are_along pieces id there.0 there.1 h there.2).0 (subst (λ (i : List ℕ). is_id_among (taken_along pieces id) i ≡ true) (sym there.3) among.0))
 
   -- the piece goes exactly where it has the id or one of its parts goes
-  pub goes_is : (bytes_eq p.id id || list_any held (parts_of p.evidence)) ≡ is_among (taken_along pieces id) p.id
+  pub goes_is : (bytes_eq p.id id || list_any held (ids_of_parts p.evidence)) ≡ is_id_among (taken_along pieces id) p.id
   goes_is = same_test _ _ (λ is. (taken_are_along pieces id k p h here).1 (to_taken is)) (λ out. of_taken ((taken_are_along pieces id k p h here).0 out))
 
   read : get_or pieces k p ≡ p
@@ -117,11 +117,11 @@ module _ (pieces : List PieceValue) (id : List ℕ) (held : List ℕ → Bool) (
       list_any_more (λ (r : PieceValue). bytes_eq r.id q) pieces k p within ∙ ap (λ (r : PieceValue). has_id q (take k pieces) || bytes_eq r.id q) read
 
   -- its name is put to the others where it goes
-  pub AreGone-more : (now : List ℕ → Bool) → is_among (taken_along pieces id) p.id ≡ true → ((q : List ℕ) → now q ≡ cond (bytes_eq p.id q) true (held q))
+  pub AreGone-more : (now : List ℕ → Bool) → is_id_among (taken_along pieces id) p.id ≡ true → ((q : List ℕ) → now q ≡ cond (bytes_eq p.id q) true (held q))
       → k < length pieces → AreGone pieces id now (k + 1)
   AreGone-more now out put within = record {
     are = λ q. put q ∙ at q (bytes_eq p.id q) refl (gone.are q)
-        ∙ ap (λ (b : Bool). is_among (taken_along pieces id) q && b) (sym (more q within));
+        ∙ ap (λ (b : Bool). is_id_among (taken_along pieces id) q && b) (sym (more q within));
   } where
     last : (b : Bool) → (b || true) ≡ true
     last true = refl
@@ -131,17 +131,17 @@ module _ (pieces : List PieceValue) (id : List ℕ) (held : List ℕ → Bool) (
     first true = refl
     first false = refl
 
-    at : (q : List ℕ) (b : Bool) → bytes_eq p.id q ≡ b → held q ≡ (is_among (taken_along pieces id) q && has_id q (take k pieces))
-        → cond b true (held q) ≡ (is_among (taken_along pieces id) q && (has_id q (take k pieces) || b))
+    at : (q : List ℕ) (b : Bool) → bytes_eq p.id q ≡ b → held q ≡ (is_id_among (taken_along pieces id) q && has_id q (take k pieces))
+        → cond b true (held q) ≡ (is_id_among (taken_along pieces id) q && (has_id q (take k pieces) || b))
     at q true is before =
-        let among = subst (λ (i : List ℕ). is_among (taken_along pieces id) i ≡ true) ((bytes_eq-Decides p.id q).0 is) out in
-        sym (both_true (is_among (taken_along pieces id) q) (has_id q (take k pieces) || true) among (last (has_id q (take k pieces))))
-    at q false is before = before ∙ ap (λ (b : Bool). is_among (taken_along pieces id) q && b) (sym (first (has_id q (take k pieces))))
+        let among = subst (λ (i : List ℕ). is_id_among (taken_along pieces id) i ≡ true) ((bytes_eq-Decides p.id q).0 is) out in
+        sym (both_true (is_id_among (taken_along pieces id) q) (has_id q (take k pieces) || true) among (last (has_id q (take k pieces))))
+    at q false is before = before ∙ ap (λ (b : Bool). is_id_among (taken_along pieces id) q && b) (sym (first (has_id q (take k pieces))))
 
-  pub AreGone-same : is_among (taken_along pieces id) p.id ≡ false → k < length pieces → AreGone pieces id held (k + 1)
+  pub AreGone-same : is_id_among (taken_along pieces id) p.id ≡ false → k < length pieces → AreGone pieces id held (k + 1)
   AreGone-same stays within = record {
     are = λ q. gone.are q ∙ at q (bytes_eq p.id q) refl
-        ∙ ap (λ (b : Bool). is_among (taken_along pieces id) q && b) (sym (more q within));
+        ∙ ap (λ (b : Bool). is_id_among (taken_along pieces id) q && b) (sym (more q within));
   } where
     first : (a : Bool) → (a || false) ≡ a
     first true = refl
@@ -152,8 +152,8 @@ module _ (pieces : List PieceValue) (id : List ℕ) (held : List ℕ → Bool) (
     none false b c out = refl
 
     at : (q : List ℕ) (b : Bool) → bytes_eq p.id q ≡ b
-        → (is_among (taken_along pieces id) q && has_id q (take k pieces)) ≡ (is_among (taken_along pieces id) q && (has_id q (take k pieces) || b))
+        → (is_id_among (taken_along pieces id) q && has_id q (take k pieces)) ≡ (is_id_among (taken_along pieces id) q && (has_id q (take k pieces) || b))
     at q true is =
-        let out = subst (λ (i : List ℕ). is_among (taken_along pieces id) i ≡ false) ((bytes_eq-Decides p.id q).0 is) stays in
-        none (is_among (taken_along pieces id) q) (has_id q (take k pieces)) (has_id q (take k pieces) || true) out
-    at q false is = ap (λ (b : Bool). is_among (taken_along pieces id) q && b) (sym (first (has_id q (take k pieces))))
+        let out = subst (λ (i : List ℕ). is_id_among (taken_along pieces id) i ≡ false) ((bytes_eq-Decides p.id q).0 is) stays in
+        none (is_id_among (taken_along pieces id) q) (has_id q (take k pieces)) (has_id q (take k pieces) || true) out
+    at q false is = ap (λ (b : Bool). is_id_among (taken_along pieces id) q && b) (sym (first (has_id q (take k pieces))))

@@ -16,7 +16,7 @@ use Rattle.ct_kind.specs.Named.{NamedCode, first_missing, code_named, other_name
 use Rattle.ct_kind.proofs.AscendingLemmas.{ascending-moved}
 use Rattle.ct_files.specs.ByKind.{own_reason, size_over}
 use Rattle.ct_files.specs.ByKind.{evidence_reason}
-use Rattle.ct_piece.specs.Piece.{PieceValue, place_of}
+use Rattle.ct_piece.specs.Piece.{PieceValue, place_of_id}
 use Rattle.ct_files.specs.ByKind.{code_over}
 use Rattle.ct_piece.specs.Codes.{codes_of}
 use Rattle.ct_files.specs.ByKind.{is_kept, kept_over}
@@ -54,8 +54,8 @@ pub none-there : (ps : List PieceValue) (k : ℕ) (p : PieceValue) → k < lengt
 none-there ps k p below here none = kept-here ps k p below here ∙ kept_over-none (codes_of (take k ps)) p.evidence none
 
 -- a part that is found before a place is a piece
-pub part-within : (id : List ℕ) (ps : List PieceValue) (k : ℕ) → IfSome (place_of id (take k ps)) (λ i. i < length ps)
-part-within id ps k = at (place_of id (take k ps)) (λ i is. (found-before id ps k i is).1) where
+pub part-within : (id : List ℕ) (ps : List PieceValue) (k : ℕ) → IfSome (place_of_id id (take k ps)) (λ i. i < length ps)
+part-within id ps k = at (place_of_id id (take k ps)) (λ i is. (found-before id ps k i is).1) where
   at : (o : Option ℕ) → ((i : ℕ) → o ≡ Some i → i < length ps) → IfSome o (λ i. i < length ps)
   at None h = tt
   at (Some i) h = h i refl
@@ -66,7 +66,7 @@ other-within (Some id) ps k = part-within id ps k
 
 -- what the step makes of the codes that are found for its parts, and what is against it
 pub found-code : (ps : List PieceValue) (k : ℕ) (e : Entry) (step : Step) (part : List ℕ) (other : Option (List ℕ)) (first beside : Option CodeValue)
-    → first ≡ code_found ps (place_of part (take k ps)) → beside ≡ code_found ps (other_place other (take k ps))
+    → first ≡ code_found ps (place_of_id part (take k ps)) → beside ≡ code_found ps (other_place other (take k ps))
     → (code_over (codes_of (take k ps)) (Build e step part other) ≡ option_map (code_at e) (built_over e step first beside))
     × (own_reason (codes_of (take k ps)) (Build e step part other) ≡ step_reason e step part other first beside)
 found-code ps k e step part other first beside one two =
@@ -79,7 +79,7 @@ found-code ps k e step part other first beside one two =
 
 -- a part that has a code is found, with its code
 pub found-coded : (id : List ℕ) (ps : List PieceValue) (k : ℕ) → is_some (code_named id (codes_of (take k ps))) ≡ true
-    → is_some (code_found ps (place_of id (take k ps))) ≡ true
+    → is_some (code_found ps (place_of_id id (take k ps))) ≡ true
 found-coded id ps k some = ap is_some (sym (found-named id ps k)) ∙ some
 
 -- the code that a build makes has the size that is said of it

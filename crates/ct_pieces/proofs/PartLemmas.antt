@@ -18,7 +18,7 @@ use Rattle.ct_piece.specs.Codes.{named_code, codes_after, codes_of, code_of_plac
 use Rattle.ct_piece.specs.Standing.{IsMade, AreMade}
 use Rattle.ct_files.specs.ByKind.{kept_over, listed_code}
 use Rattle.ct_piece.specs.Inside.Kept.{kept_codes, code_there, code_found, other_place}
-use Rattle.ct_piece.specs.Piece.{place_of}
+use Rattle.ct_piece.specs.Piece.{place_of_id}
 use Rattle.ct_kind.proofs.AscendingLemmas.{ascending-moved}
 use Rattle.ct_piece.proofs.CodeLemmas.{AreMade-take, made_at, position-some, position-none, known_where_taken}
 use Rattle.ct_kind.specs.Sound.{HasSoundCode}
@@ -26,7 +26,7 @@ use Rattle.ct_files.proofs.StatedByKind.{StatesCode}
 use Rattle.ct_files.proofs.StatedByKind.{IsRight, right-own, states_code}
 use Rattle.ct_piece.proofs.MakingLemmas.{making-of, IsMade-right, codes_after-sound, code_of_place-is}
 use Rattle.ct_piece.proofs.KeptLemmas.{place-or_listed, kept_at, listed-some, listed-none}
-use Rattle.ct_piece.proofs.SupportLemmas.{place_of-found, place_of-none}
+use Rattle.ct_piece.proofs.SupportLemmas.{place_of_id-found, place_of_id-none}
 
 -- what is known of the piece at a place
 pub record IsPlaced (ps : List PieceValue) (k : ℕ) (p : PieceValue) : Type 0 where
@@ -86,14 +86,14 @@ sized-coded ps k p at coded none =
     sized-words p.size (words_over (codes_of (take k ps)) p.evidence) (at.states.coded ∙ coded) (at.size ∙ at.states.size coded) none
 
 -- an id is known where a piece has it
-pub known-found : (id : List ℕ) (ps : List PieceValue) (k : ℕ) → place_of id ps ≡ Some k → is_known id (codes_of ps) ≡ true
-known-found id ps k is = known_where_taken id [] ps ∙ place_of-found id ps k is
+pub known-found : (id : List ℕ) (ps : List PieceValue) (k : ℕ) → place_of_id id ps ≡ Some k → is_known id (codes_of ps) ≡ true
+known-found id ps k is = known_where_taken id [] ps ∙ place_of_id-found id ps k is
 
-pub known-missing : (id : List ℕ) (ps : List PieceValue) → place_of id ps ≡ None → is_known id (codes_of ps) ≡ false
-known-missing id ps is = known_where_taken id [] ps ∙ place_of-none id ps is
+pub known-missing : (id : List ℕ) (ps : List PieceValue) → place_of_id id ps ≡ None → is_known id (codes_of ps) ≡ false
+known-missing id ps is = known_where_taken id [] ps ∙ place_of_id-none id ps is
 
 -- the code of an id is that at the place of its piece
-pub named-first : (id : List ℕ) (ps : List PieceValue) (k : ℕ) → place_of id ps ≡ Some k → code_named id (codes_of ps) ≡ code_of_place ps k
+pub named-first : (id : List ℕ) (ps : List PieceValue) (k : ℕ) → place_of_id id ps ≡ Some k → code_named id (codes_of ps) ≡ code_of_place ps k
 named-first id ps k is = (position-some id ps k is).1
 
 -- the code of a piece: kept, or listed
@@ -138,16 +138,16 @@ place_take : (ps : List PieceValue) (k i : ℕ) → i < length (take k ps) → c
 place_take ps k i below = ap (λ (found : Option NamedCode). option_flatten (option_map (λ (l : NamedCode). l.code) found)) (codes_take [] ps k i below)
 
 -- where an id is found among the pieces before a place, that place is after it
-pub found-before : (id : List ℕ) (ps : List PieceValue) (k i : ℕ) → place_of id (take k ps) ≡ Some i → (i < k) × (i < length ps)
+pub found-before : (id : List ℕ) (ps : List PieceValue) (k i : ℕ) → place_of_id id (take k ps) ≡ Some i → (i < k) × (i < length ps)
 found-before id ps k i is =
     let within = (position-some id (take k ps) i is).0 in
     let long = length-take k ps in
     (omega arith, omega arith)
 
 -- the code of an id over the pieces before a place is that of the piece that is found
-pub found-named : (id : List ℕ) (ps : List PieceValue) (k : ℕ) → code_named id (codes_of (take k ps)) ≡ code_found ps (place_of id (take k ps))
-found-named id ps k = at (place_of id (take k ps)) refl where
-  at : (o : Option ℕ) → place_of id (take k ps) ≡ o → code_named id (codes_of (take k ps)) ≡ code_found ps o
+pub found-named : (id : List ℕ) (ps : List PieceValue) (k : ℕ) → code_named id (codes_of (take k ps)) ≡ code_found ps (place_of_id id (take k ps))
+found-named id ps k = at (place_of_id id (take k ps)) refl where
+  at : (o : Option ℕ) → place_of_id id (take k ps) ≡ o → code_named id (codes_of (take k ps)) ≡ code_found ps o
   at None is = position-none id (take k ps) is
   at (Some i) is =
       let found = position-some id (take k ps) i is in

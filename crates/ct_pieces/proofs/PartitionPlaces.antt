@@ -6,7 +6,7 @@ use Rattle.std.proofs.lemmas.Bool.{ltb-true, ltb-false}
 use Rattle.ct_classes.specs.Partition.{PartitionValue}
 use Rattle.ct_kind.specs.Named.{NamedCode, partition_named}
 use Rattle.ct_files.specs.ByKind.{kind_of}
-use Rattle.ct_piece.specs.Piece.{PieceValue, place_of}
+use Rattle.ct_piece.specs.Piece.{PieceValue, place_of_id}
 use Rattle.ct_piece.specs.Codes.{named_code, codes_after, codes_of}
 use Rattle.ct_piece.proofs.CodeLemmas.{is_named}
 
@@ -44,7 +44,7 @@ not_found id known (p ∷ ps) past = at (bytes_eq p.id id) (not_found id next ps
   at false rest within = rest (omega arith)
 
 -- where a piece has the id
-pub partition-some : (id : List ℕ) (ps : List PieceValue) (k : ℕ) (d : PieceValue) → place_of id ps ≡ Some k → partition_named id (codes_of ps) ≡ partition_in (get_or ps k d)
+pub partition-some : (id : List ℕ) (ps : List PieceValue) (k : ℕ) (d : PieceValue) → place_of_id id ps ≡ Some k → partition_named id (codes_of ps) ≡ partition_in (get_or ps k d)
 partition-some id ps k d h = at (nat_lt (position_or_len (is_named id) ps) (length ps)) refl h where
   at : (b : Bool) → nat_lt (position_or_len (is_named id) ps) (length ps) ≡ b → cond b (Some (position_or_len (is_named id) ps)) None ≡ Some k
       → partition_named id (codes_of ps) ≡ partition_in (get_or ps k d)
@@ -55,7 +55,7 @@ partition-some id ps k d h = at (nat_lt (position_or_len (is_named id) ps) (leng
   at false e same = absurd cc
 
 -- and where none has
-pub partition-none : (id : List ℕ) (ps : List PieceValue) → place_of id ps ≡ None → partition_named id (codes_of ps) ≡ None
+pub partition-none : (id : List ℕ) (ps : List PieceValue) → place_of_id id ps ≡ None → partition_named id (codes_of ps) ≡ None
 partition-none id ps h = at (nat_lt (position_or_len (is_named id) ps) (length ps)) refl h where
   at : (b : Bool) → nat_lt (position_or_len (is_named id) ps) (length ps) ≡ b → cond b (Some (position_or_len (is_named id) ps)) None ≡ None
       → partition_named id (codes_of ps) ≡ None

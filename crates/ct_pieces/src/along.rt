@@ -5,7 +5,7 @@ ghost use Rattle.std.specs.List.{list_any};
 ghost use Rattle.std.specs.Str.{bytes_eq};
 ghost use Rattle.ct_files.specs.PartNames.{has_name};
 ghost use Rattle.ct_piece.specs.Inside.Unmarked.{unmarked};
-ghost use Rattle.ct_files.specs.ByKind.{parts_of};
+ghost use Rattle.ct_files.specs.ByKind.{ids_of_parts};
 ghost use Rattle.ct_piece.specs.Piece.{stored_words};
 ghost use Rattle.ct_piece.specs.Standing.{AreStanding};
 ghost use Rattle.ct_piece.specs.Withdrawal.{marks_along};
@@ -20,7 +20,7 @@ use std::collections::HashSet;
 
 /// Whether the piece goes where those of the set do: it has the id, or names one of them as a part.
 fn goes<'a>(names: &HashSet<&'a [u8]>, piece: &'a Piece, id: Id) -> bool
-    ensures { result ≡ (bytes_eq piece.now.id id || list_any (has_name names.now) (parts_of piece.now.evidence)) }
+    ensures { result ≡ (bytes_eq piece.now.id id || list_any (has_name names.now) (ids_of_parts piece.now.evidence)) }
 {
     piece.id() == id || has_part(names, piece.evidence())
 }

@@ -4,7 +4,7 @@ ghost use Rattle.std.specs.Prelude.{◌≡◌, ◌<◌, ◌≤◌, Some, IfOk, I
 ghost use Rattle.ct_piece.specs.Codes.{code_of_place};
 ghost use Rattle.ct_piece.specs.Standing.{AreMade};
 ghost use Rattle.ct_piece.specs.Inside.Kept.{kept_codes, code_there};
-ghost use Rattle.ct_piece.specs.Piece.{place_of};
+ghost use Rattle.ct_piece.specs.Piece.{place_of_id};
 
 use crate::standing::Standing;
 use ct_files::listed_code;
@@ -16,7 +16,7 @@ use std::alloc::{AllocError, Global};
 
 /// The place of the first piece with the id.
 pub(crate) fn place_of(pieces: &[Piece], id: Id) -> Option<usize>
-    ensures { result ≡ place_of id pieces.now }
+    ensures { result ≡ place_of_id id pieces.now }
 {
     pieces.iter().position(|piece| piece.id() == id)
 }

@@ -13,7 +13,7 @@ ghost use Rattle.ct_piece.specs.Standing.{AreStanding, HasTrueSize};
 ghost use Rattle.ct_piece.specs.Dump.{dump_text};
 ghost use Rattle.ct_piece.specs.Submission.{AddsPiece};
 ghost use Rattle.ct_piece.specs.Supports.{supports_of};
-ghost use Rattle.ct_piece.specs.Piece.{place_of};
+ghost use Rattle.ct_piece.specs.Piece.{place_of_id};
 
 use crate::along::{leave_out, marks_along, stored_words};
 use crate::builds::keep_code;
@@ -148,7 +148,7 @@ impl Pieces {
 
     /// The place of the piece with the id, where there is one.
     pub fn place_of(&self, id: Id) -> Option<usize>
-        ensures place { result ≡ place_of id self.now }
+        ensures place { result ≡ place_of_id id self.now }
         ensures few { IfSome result (λ place. place < MAX_PIECES) }
     {
         place_of(&self.pieces, id)
@@ -274,7 +274,7 @@ impl Pieces {
     /// The place of the piece with the id, where it can be withdrawn. `NoSuch` comes exactly where no piece has it, and `InUse` where
     /// another names it.
     pub fn place_to_leave(&self, id: Id) -> Result<usize, WithdrawFault>
-        ensures place { IfOk result (λ place. place_of id self.now ≡ Some place) }
+        ensures place { IfOk result (λ place. place_of_id id self.now ≡ Some place) }
         ensures free { OnOk result (option_map (λ p. p.id) (first_user id self.now) ≡ None) }
         ensures fault { IfErr result (λ fault. withdrawn self.now id ≡ Err fault) }
     {
@@ -289,7 +289,7 @@ impl Pieces {
 
     /// Takes the piece of the id out, which stands at the place, and which no piece names.
     pub fn take_out(&mut self, id: Id, place: usize)
-        requires place { place_of id self.old ≡ Some place }
+        requires place { place_of_id id self.old ≡ Some place }
         requires free { option_map (λ p. p.id) (first_user id self.old) ≡ None }
         ensures pieces { self.new ≡ remove self.old place }
         ensures left { withdrawn self.old id ≡ Ok self.new }

@@ -18,7 +18,7 @@ use Rattle.ct_rule_parts.specs.Entries.{listed}
 use Rattle.ct_rule_parts.specs.Slot.{Slot}
 use Rattle.ct_rule_parts.specs.Support.{Stands, AllStand}
 use Rattle.ct_rules.specs.declared.rule.Rule.{Rule}
-use Rattle.ct_rules.specs.Rule.{rule_side, place_of, support_at, cited, parts_over, applies, premises_at, premises_of, count_of, premise_of, value_of}
+use Rattle.ct_rules.specs.Rule.{rule_side, named_place, support_at, cited, parts_over, applies, premises_at, premises_of, count_of, premise_of, value_of}
 
 -- a rule of these parts is defined at the entry
 pub record IsDefined (p : RuleParts) (e : Entry) : Type 0 where
@@ -128,7 +128,7 @@ limit_from Upper x few = refl
 
 -- the support that a rule names stands where all do
 pub cited-stands : (supports : List Support) (r : Rule) → AllStand supports → ForSome (cited supports r) Stands
-cited-stands supports r stand = go (place_of r)
+cited-stands supports r stand = go (named_place r)
   where
     go : (place : Option ℕ) → ForSome (support_at supports place) Stands
     go None = λ s h. absurd (none-some s h)

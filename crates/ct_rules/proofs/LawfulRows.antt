@@ -53,7 +53,7 @@ use Rattle.ct_weight_rules.proofs.LawfulOddSizes.{odd_size_above-lawful}
 use Rattle.ct_weight_rules.proofs.LawfulLocalDuals.{local_above-lawful}
 use Rattle.ct_rules.specs.declared.rule.Rule.{Rule}
 use Rattle.ct_rules.specs.declared.rule.Rule.TheVariants.{L1, L2, L3, L4, L5, L6, L7, L8, L9, L10, L11, M1, M2, M3, M4, M5, M6, M7, M8, M9, M10, U0, U1, U2, U3, U4, U5, U6, U7, U8, U9, U10, U11, U12, V0, V1, V2, V3, V4, V5, V6, V7, V8, V9, V10}
-use Rattle.ct_rules.specs.Rule.{Row, by_itself, by_numbers, by_weight, by_support, row_of, parts_in, parts_of, parts_over, place_of, with_place, is_alone_in, is_alone, is_by_weight, cited, rule_side}
+use Rattle.ct_rules.specs.Rule.{Row, by_itself, by_numbers, by_weight, by_support, row_of, parts_in, parts_of, parts_over, named_place, with_place, is_alone_in, is_alone, is_by_weight, cited, rule_side}
 
 -- what each rule is made of is lawful
 pub lawful : (r : Rule) (c : Option Support) → IsLawful c (parts_of r c)
@@ -121,7 +121,7 @@ fails true = refl
 fails false = refl
 
 -- a rule that names a support is not defined without one
-pub needs_support : (r : Rule) (place : ℕ) (e : Entry) → place_of r ≡ Some place
+pub needs_support : (r : Rule) (place : ℕ) (e : Entry) → named_place r ≡ Some place
     → (parts_of r None).condition e ≡ false
 unfolding row_of
 needs_support (L10 place) other e names = fails (not (has_weight e))
@@ -133,7 +133,7 @@ needs_support (V10 place) other e names = fails (has_weight e)
 needs_support r place e names = absurd (none-some place names)
 
 -- nor over one that gives nothing
-pub needs_something : (r : Rule) (place : ℕ) (e : Entry) → place_of r ≡ Some place
+pub needs_something : (r : Rule) (place : ℕ) (e : Entry) → named_place r ≡ Some place
     → (parts_of r (Some Nothing)).condition e ≡ false
 unfolding row_of
 needs_something (L10 place) other e names = fails (not (has_weight e))
@@ -145,7 +145,7 @@ needs_something (V10 place) other e names = fails (has_weight e)
 needs_something r place e names = absurd (none-some place names)
 
 -- a rule that names a support rests on nothing, but for three
-pub supported-rests : (r : Rule) (place : ℕ) (c : Option Support) (e : Entry) → place_of r ≡ Some place
+pub supported-rests : (r : Rule) (place : ℕ) (c : Option Support) (e : Entry) → named_place r ≡ Some place
     → ((parts_of r c).rests_on e ≡ []) ⊎ ((r ≡ U11 place) ⊎ ((r ≡ U12 place) ⊎ (r ≡ V10 place)))
 unfolding row_of
 supported-rests (L10 place) other c e names = inl refl
@@ -157,15 +157,15 @@ supported-rests (V10 place) other c e names = inr (inr (inr (ap V10 (same_Some p
 supported-rests r place c e names = absurd (none-some place names)
 
 -- a rule with another place names that place, and is made of the same
-pub place_of-placed : (r : Rule) (place other : ℕ) → place_of r ≡ Some place → place_of (with_place r other) ≡ Some other
+pub named_place-placed : (r : Rule) (place other : ℕ) → named_place r ≡ Some place → named_place (with_place r other) ≡ Some other
 unfolding row_of
-place_of-placed (L10 place) was other names = refl
-place_of-placed (M10 place) was other names = refl
-place_of-placed (U11 place) was other names = refl
-place_of-placed (U12 place) was other names = refl
-place_of-placed (V9 place) was other names = refl
-place_of-placed (V10 place) was other names = refl
-place_of-placed r was other names = absurd (none-some was names)
+named_place-placed (L10 place) was other names = refl
+named_place-placed (M10 place) was other names = refl
+named_place-placed (U11 place) was other names = refl
+named_place-placed (U12 place) was other names = refl
+named_place-placed (V9 place) was other names = refl
+named_place-placed (V10 place) was other names = refl
+named_place-placed r was other names = absurd (none-some was names)
 
 pub parts_of-placed : (r : Rule) (other : ℕ) (c : Option Support) → parts_of (with_place r other) c ≡ parts_of r c
 unfolding row_of
@@ -177,7 +177,7 @@ parts_of-placed (V9 place) other c = refl
 parts_of-placed (V10 place) other c = refl
 parts_of-placed r other c = refl
 
-pub placed_again : (r : Rule) (other place : ℕ) → place_of r ≡ Some place → with_place (with_place r other) place ≡ r
+pub placed_again : (r : Rule) (other place : ℕ) → named_place r ≡ Some place → with_place (with_place r other) place ≡ r
 unfolding row_of
 placed_again (L10 place) other was names = ap L10 (sym (same_Some place was names))
 placed_again (M10 place) other was names = ap M10 (sym (same_Some place was names))
@@ -337,7 +337,7 @@ pub alone-parts : (r : Rule) (supports : List Support) → is_alone r ≡ true �
 alone-parts r supports alone = alone_parts (row_of r) (cited supports r) None alone
 
 -- a rule that names no support and is not alone lays words side by side, takes a sum class, or leads from entries with weight to those without
-pub not_alone : (r : Rule) → place_of r ≡ None → is_alone r ≡ false
+pub not_alone : (r : Rule) → named_place r ≡ None → is_alone r ≡ false
     → ((m : ℕ) × (c : ℕ) × (r ≡ L11 m c)) ⊎ (((k : ℕ) × (r ≡ M9 k)) ⊎ (is_by_weight r ≡ true))
 unfolding row_of
 not_alone (L11 m c) names alone = inl (m, c, refl)

@@ -7,9 +7,9 @@ use Rattle.ct_words.specs.declared.claim.Side.{Side}
 use Rattle.ct_rule_parts.specs.declared.support.Support.{Support}
 use Rattle.ct_rule_parts.specs.Parts.{RuleParts, is_defined, slots_on, within_limit}
 use Rattle.ct_rules.specs.declared.rule.Rule.{Rule}
-use Rattle.ct_rules.specs.Rule.{rule_side, place_of, with_place, support_at, cited, parts_of, parts_over, applies, premises_of, value_of}
+use Rattle.ct_rules.specs.Rule.{rule_side, named_place, with_place, support_at, cited, parts_of, parts_over, applies, premises_of, value_of}
 use Rattle.ct_rules.proofs.Applied.{defined}
-use Rattle.ct_rules.proofs.LawfulRows.{needs_support, place_of-placed, parts_of-placed}
+use Rattle.ct_rules.proofs.LawfulRows.{needs_support, named_place-placed, parts_of-placed}
 use Rattle.ct_rules.specs.Removal.{Places, without, lowered_place, names_one, lowered_by, lowered}
 use Rattle.ct_rules.proofs.WithoutLemmas.{was_at, slice_get-without}
 
@@ -41,7 +41,7 @@ value_of-alike supports others r q e vs alike same =
 
 -- a rule that is defined and names a support names one that is there
 pub support_there : (supports : List Support) (r : Rule) (place : ℕ) (e : Entry) → applies supports r e ≡ true
-    → place_of r ≡ Some place → (support : Support) × (slice_get supports place ≡ Some support)
+    → named_place r ≡ Some place → (support : Support) × (slice_get supports place ≡ Some support)
 support_there supports r place e h names = go (slice_get supports place) refl
   where
     go : (c : Option Support) → slice_get supports place ≡ c
@@ -56,7 +56,7 @@ support_there supports r place e h names = go (slice_get supports place) refl
 
 -- a lowered rule says what the rule said
 pub IsAlike-lowered : (gone : Places) (r : Rule) → IsAlike (lowered gone r) r
-IsAlike-lowered gone r c = go (place_of r)
+IsAlike-lowered gone r c = go (named_place r)
   where
     go : (place : Option ℕ) → parts_of (lowered_by gone r place) c ≡ parts_of r c
     go None = refl
@@ -64,29 +64,29 @@ IsAlike-lowered gone r c = go (place_of r)
 
 -- and names the support that it named
 pub cited-lowered : (gone : Places) (supports : List Support) (r : Rule) (e : Entry) → applies supports r e ≡ true
-    → names_one gone (place_of r) ≡ false → cited (without gone supports) (lowered gone r) ≡ cited supports r
-cited-lowered gone supports r e h apart = go (place_of r) refl apart
+    → names_one gone (named_place r) ≡ false → cited (without gone supports) (lowered gone r) ≡ cited supports r
+cited-lowered gone supports r e h apart = go (named_place r) refl apart
   where
-    go : (place : Option ℕ) → place_of r ≡ place → names_one gone place ≡ false
+    go : (place : Option ℕ) → named_place r ≡ place → names_one gone place ≡ false
         → cited (without gone supports) (lowered_by gone r place) ≡ support_at supports place
     go None names stays = ap (support_at (without gone supports)) names
     go (Some place) names stays =
         let there = support_there supports r place e h names in
-        ap (support_at (without gone supports)) (place_of-placed r place (lowered_place gone place) names)
+        ap (support_at (without gone supports)) (named_place-placed r place (lowered_place gone place) names)
         ∙ slice_get-without gone supports place there.0 stays there.1 ∙ sym there.1
 
 -- a rule over the supports that are left, as it was over all
 pub record WasRule (gone : Places) (supports : List Support) (q : Rule) : Type 0 where
   pub rule : Rule
-  pub stays : names_one gone (place_of rule) ≡ false
+  pub stays : names_one gone (named_place rule) ≡ false
   pub alike : IsAlike rule q
   pub cites : cited supports rule ≡ cited (without gone supports) q
 
 pub was_rule : (gone : Places) (supports : List Support) (q : Rule) (e : Entry) → applies (without gone supports) q e ≡ true
     → WasRule gone supports q
-was_rule gone supports q e h = go (place_of q) refl
+was_rule gone supports q e h = go (named_place q) refl
   where
-    go : (place : Option ℕ) → place_of q ≡ place → WasRule gone supports q
+    go : (place : Option ℕ) → named_place q ≡ place → WasRule gone supports q
     go None names = record {
       rule = q;
       stays = ap (names_one gone) names;
@@ -98,9 +98,9 @@ was_rule gone supports q e h = go (place_of q) refl
         let was = was_at gone supports place there.0 there.1 in
         record {
           rule = with_place q was.place;
-          stays = ap (names_one gone) (place_of-placed q place was.place names) ∙ was.stays;
+          stays = ap (names_one gone) (named_place-placed q place was.place names) ∙ was.stays;
           alike = parts_of-placed q was.place;
           cites =
-              ap (support_at supports) (place_of-placed q place was.place names) ∙ was.there
+              ap (support_at supports) (named_place-placed q place was.place names) ∙ was.there
               ∙ sym (ap (support_at (without gone supports)) names ∙ there.1);
         }

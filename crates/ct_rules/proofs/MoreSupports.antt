@@ -8,7 +8,7 @@ use Rattle.ct_rule_parts.specs.declared.support.Support.{Support}
 use Rattle.ct_rule_parts.specs.Parts.{is_defined, slots_on, within_limit}
 use Rattle.ct_rule_parts.specs.Slot.{Slot, slot_of, claim_at, IsNoBetter}
 use Rattle.ct_rules.specs.declared.rule.Rule.{Rule}
-use Rattle.ct_rules.specs.Rule.{rule_side, place_of, support_at, cited, parts_of, parts_over, applies, premises_of, value_of}
+use Rattle.ct_rules.specs.Rule.{rule_side, named_place, support_at, cited, parts_of, parts_over, applies, premises_of, value_of}
 use Rattle.ct_rules.specs.Derivation.{LineValue, claims_at, Follows, IsDerivation, IsDerived, IsBest}
 use Rattle.ct_rule_parts.proofs.Places.{slice_get-append_left}
 use Rattle.ct_rules.proofs.LawfulRows.{needs_support}
@@ -18,9 +18,9 @@ use Rattle.ct_rules.proofs.Applied.{defined, applies_from_value}
 -- a rule that is defined over the supports cites the same support over more
 pub cited_over_more : (supports more : List Support) (r : Rule) (e : Entry) → applies supports r e ≡ true
     → cited (supports ++ more) r ≡ cited supports r
-cited_over_more supports more r e h = go (place_of r) refl
+cited_over_more supports more r e h = go (named_place r) refl
   where
-    there : (place : ℕ) (c : Option Support) → place_of r ≡ Some place → cited supports r ≡ c
+    there : (place : ℕ) (c : Option Support) → named_place r ≡ Some place → cited supports r ≡ c
         → slice_get supports place ≡ c → slice_get (supports ++ more) place ≡ slice_get supports place
     there place None names is at =
         let known = (defined (parts_over supports r) e h).condition in
@@ -30,7 +30,7 @@ cited_over_more supports more r e h = go (place_of r) refl
     there place (Some support) names is at =
         slice_get-append_left supports more place (slice_get_within supports place support at)
 
-    go : (place : Option ℕ) → place_of r ≡ place → support_at (supports ++ more) place ≡ support_at supports place
+    go : (place : Option ℕ) → named_place r ≡ place → support_at (supports ++ more) place ≡ support_at supports place
     go None names = refl
     go (Some place) names =
         there place (slice_get supports place) names (ap (support_at supports) names) refl

@@ -19,7 +19,7 @@ use Rattle.ct_weight_rules.specs.Neighbours.{of_weight, even_of_weight}
 use Rattle.ct_weight_rules.proofs.LawfulGrahamSloane.{known_class}
 use Rattle.ct_rules.specs.declared.rule.Rule.{Rule}
 use Rattle.ct_rules.specs.declared.rule.Rule.TheVariants.{L9, L10, L11, M9, M10, U9, U10, U11, U12, V9, V10}
-use Rattle.ct_rules.specs.Rule.{row_of, rule_side, place_of, is_alone, is_by_weight, parts_over, applies}
+use Rattle.ct_rules.specs.Rule.{row_of, rule_side, named_place, is_alone, is_by_weight, parts_over, applies}
 use Rattle.ct_rules.specs.Closed.{IsSatisfied, IsClosed}
 use Rattle.ct_rules.specs.Listing.{rules_alone}
 use Rattle.ct_rules.specs.Inside.AllRules.{juxtaposition_rules, sum_class_rules, rules_with_numbers, rules_by_weight, rules_of_supports, rules_at}
@@ -142,7 +142,7 @@ listed_by_weight supports (U10 v) n d (Some w) by is = absurd (false≢true is.c
 listed_by_weight supports r n d w by is = absurd (false≢true by)
 
 -- a rule that names a support and is defined at an entry
-listed_given : (supports : List Support) (r : Rule) (place n d : ℕ) (w : Option ℕ) → place_of r ≡ Some place
+listed_given : (supports : List Support) (r : Rule) (place n d : ℕ) (w : Option ℕ) → named_place r ≡ Some place
     → IsDefined (parts_over supports r) (record { n = n; d = d; w = w })
     → Contains (rules_at (length supports) (rule_side r, record { n = n; d = d; w = w })) r
 unfolding row_of rules_at
@@ -202,7 +202,7 @@ listed_given supports r place n d w names is = absurd (none-some place names)
 -- a rule that is defined at an entry stands in the list of its slot
 pub rules_at-complete : (supports : List Support) (r : Rule) (e : Entry) → applies supports r e ≡ true
     → Contains (rules_at (length supports) (rule_side r, e)) r
-rules_at-complete supports r e h = by_place (place_of r) refl
+rules_at-complete supports r e h = by_place (named_place r) refl
   where
     is : IsDefined (parts_over supports r) e
     is = defined (parts_over supports r) e h
@@ -217,7 +217,7 @@ rules_at-complete supports r e h = by_place (place_of r) refl
         subst (λ (q : Rule). Contains (rules_at (length supports) (rule_side q, e)) q) (sym same)
         (listed_class supports k e.n e.d e.w (subst (λ (q : Rule). IsDefined (parts_over supports q) e) same is))
 
-    by_numbers : place_of r ≡ None → (b : Bool) → is_alone r ≡ b → Contains (rules_at (length supports) (rule_side r, e)) r
+    by_numbers : named_place r ≡ None → (b : Bool) → is_alone r ≡ b → Contains (rules_at (length supports) (rule_side r, e)) r
     by_numbers none true alone = listed_alone supports r e alone is
     by_numbers none false alone = elim (not_alone r none alone) [
       | inl numbers ↦ sum numbers.0 numbers.1 numbers.2
@@ -225,7 +225,7 @@ rules_at-complete supports r e h = by_place (place_of r) refl
       | inr (inr by) ↦ listed_by_weight supports r e.n e.d e.w by is
     ]
 
-    by_place : (place : Option ℕ) → place_of r ≡ place → Contains (rules_at (length supports) (rule_side r, e)) r
+    by_place : (place : Option ℕ) → named_place r ≡ place → Contains (rules_at (length supports) (rule_side r, e)) r
     by_place None none = by_numbers none (is_alone r) refl
     by_place (Some place) names = listed_given supports r place e.n e.d e.w names is
 

@@ -11,7 +11,7 @@ use Rattle.ct_rules.specs.declared.arguments.Arguments.{Arguments}
 use Rattle.ct_rules.specs.declared.arguments.Arguments.TheVariants.{Nothing, Number, Numbers, Place}
 use Rattle.ct_rules.specs.declared.rule.Rule.{Rule}
 use Rattle.ct_rules.specs.declared.rule.Rule.TheVariants.{L9}
-use Rattle.ct_rules.specs.Rule.{row_of, rule_side, name_of, arguments_of, with_arguments, with_place, place_of, bare, Written, no_arguments, one_number, two_numbers, one_place, written_in, argued_in}
+use Rattle.ct_rules.specs.Rule.{row_of, rule_side, name_of, arguments_of, with_arguments, with_place, named_place, bare, Written, no_arguments, one_number, two_numbers, one_place, written_in, argued_in}
 use Rattle.ct_rules.specs.Listing.{rules_on, first_named, rule_named}
 
 -- the name of a rule leads to it, but for its arguments
@@ -73,7 +73,7 @@ bare-placed r place other is =
     sym (placed_twice (bare r) place other)
     ∙ ap (λ (q : Rule). with_place q other) (sym (placed (bare r) place) ∙ ap (with_arguments (bare r)) (sym is) ∙ argued_again r)
 
-pub place_is : (r : Rule) → place_among (arguments_of r) ≡ place_of r
+pub place_is : (r : Rule) → place_among (arguments_of r) ≡ named_place r
 unfolding row_of
 place_is (L9 w) = refl
 place_is r = refl

@@ -9,7 +9,7 @@ use Rattle.ct_rule_parts.specs.Slot.{Slot, IsNoBetter}
 use Rattle.ct_rule_parts.specs.Support.{Stands, AllStand}
 use Rattle.ct_rules.specs.declared.rule.Rule.{Rule}
 use Rattle.ct_rules.specs.Closed.{IsClosed}
-use Rattle.ct_rules.specs.Rule.{place_of, support_at, cited, parts_of, parts_over, applies, premises_of, value_of}
+use Rattle.ct_rules.specs.Rule.{named_place, support_at, cited, parts_of, parts_over, applies, premises_of, value_of}
 use Rattle.ct_rules.proofs.Applied.{defined, applies_from_premises}
 use Rattle.ct_rules.proofs.LawfulRows.{needs_support, needs_something}
 use Rattle.ct_rules.specs.Removal.{Places, without, names_one, voided_by, voided}
@@ -29,9 +29,9 @@ stays_as_it_is None = refl
 stays_as_it_is (Some support) = refl
 
 -- a rule that names none of the set names the same support
-pub cited-voided : (gone : Places) (supports : List Support) (r : Rule) → names_one gone (place_of r) ≡ false
+pub cited-voided : (gone : Places) (supports : List Support) (r : Rule) → names_one gone (named_place r) ≡ false
     → cited (voided gone supports) r ≡ cited supports r
-cited-voided gone supports r apart = go (place_of r) apart
+cited-voided gone supports r apart = go (named_place r) apart
   where
     go : (place : Option ℕ) → names_one gone place ≡ false
         → support_at (voided gone supports) place ≡ support_at supports place
@@ -43,38 +43,38 @@ cited-voided gone supports r apart = go (place_of r) apart
 
 -- a rule that is defined names none of the set
 pub names_none : (gone : Places) (supports : List Support) (r : Rule) (e : Entry)
-    → applies (voided gone supports) r e ≡ true → names_one gone (place_of r) ≡ false
-names_none gone supports r e h = go (place_of r) refl
+    → applies (voided gone supports) r e ≡ true → names_one gone (named_place r) ≡ false
+names_none gone supports r e h = go (named_place r) refl
   where
     holds : (parts_over (voided gone supports) r).condition e ≡ true
     holds = (defined (parts_over (voided gone supports) r) e h).condition
 
-    nothing : (place : ℕ) (o : Option Support) → place_of r ≡ Some place
+    nothing : (place : ℕ) (o : Option Support) → named_place r ≡ Some place
         → cited (voided gone supports) r ≡ option_map (voided_by true) o → false ≡ true
     nothing place None names is =
         sym (needs_support r place e names) ∙ subst (λ (c : Option Support). (parts_of r c).condition e ≡ true) is holds
     nothing place (Some support) names is =
         sym (needs_something r place e names) ∙ subst (λ (c : Option Support). (parts_of r c).condition e ≡ true) is holds
 
-    by_place : (place : ℕ) (b : Bool) → place_of r ≡ Some place → gone place ≡ b → b ≡ false
+    by_place : (place : ℕ) (b : Bool) → named_place r ≡ Some place → gone place ≡ b → b ≡ false
     by_place place false names is = refl
     by_place place true names is =
         absurd (false≢true (nothing place (slice_get supports place) names
         (ap (support_at (voided gone supports)) names ∙ slice_get-voided gone supports place
         ∙ ap (λ (b : Bool). option_map (voided_by b) (slice_get supports place)) is)))
 
-    go : (place : Option ℕ) → place_of r ≡ place → names_one gone place ≡ false
+    go : (place : Option ℕ) → named_place r ≡ place → names_one gone place ≡ false
     go None names = refl
     go (Some place) names = by_place place (gone place) names refl
 
 -- such a rule rests on the same and gives the same as over all supports
 pub premises_of-voided : (gone : Places) (supports : List Support) (r : Rule) (e : Entry)
-    → names_one gone (place_of r) ≡ false → premises_of (voided gone supports) r e ≡ premises_of supports r e
+    → names_one gone (named_place r) ≡ false → premises_of (voided gone supports) r e ≡ premises_of supports r e
 premises_of-voided gone supports r e apart =
     premises_of-alike (voided gone supports) supports r r e (λ c. refl) (cited-voided gone supports r apart)
 
 pub value_of-voided : (gone : Places) (supports : List Support) (r : Rule) (e : Entry) (vs : List ℕ)
-    → names_one gone (place_of r) ≡ false → value_of (voided gone supports) r e vs ≡ value_of supports r e vs
+    → names_one gone (named_place r) ≡ false → value_of (voided gone supports) r e vs ≡ value_of supports r e vs
 value_of-voided gone supports r e vs apart =
     value_of-alike (voided gone supports) supports r r e vs (λ c. refl) (cited-voided gone supports r apart)
 

@@ -4,7 +4,7 @@ use Rattle.ct_rule_parts.specs.declared.support.Support.{Support}
 use Rattle.ct_rule_parts.specs.declared.support.Support.TheVariants.{Nothing}
 use Rattle.ct_rules.specs.declared.rule.Rule.{Rule}
 use Rattle.ct_rules.specs.Derivation.{LineValue}
-use Rattle.ct_rules.specs.Rule.{place_of, with_place}
+use Rattle.ct_rules.specs.Rule.{named_place, with_place}
 
 -- a set of places
 abbrev pub Places : Type 0
@@ -44,11 +44,11 @@ lowered_by gone r (Some place) = with_place r (lowered_place gone place)
 
 -- a rule over the supports that are left
 abbrev pub lowered : Places → Rule → Rule
-lowered gone r = lowered_by gone r (place_of r)
+lowered gone r = lowered_by gone r (named_place r)
 
 -- a chain of lines leads from the line at i, each line naming the next one, to one whose rule names a support of the set
 abbrev pub IsChain : List LineValue → Places → ℕ → List ℕ → Type 0
-IsChain lines gone i [] = (l : LineValue) × (slice_get lines i ≡ Some l) × (names_one gone (place_of l.rule) ≡ true)
+IsChain lines gone i [] = (l : LineValue) × (slice_get lines i ≡ Some l) × (names_one gone (named_place l.rule) ≡ true)
 IsChain lines gone i (p ∷ ps) = ((l : LineValue) × (slice_get lines i ≡ Some l) × Contains l.from p) × IsChain lines gone p ps
 
 -- the line at i rests on a support of the set: by its own rule, or through lines that it names

@@ -176,8 +176,8 @@ place_in (by_weight name written parts) = None
 place_in (by_support name named place parts) = Some place
 
 -- the place of the support that a rule names, where it names one
-abbrev pub place_of : Rule → Option ℕ
-place_of r = place_in (row_of r)
+abbrev pub named_place : Rule → Option ℕ
+named_place r = place_in (row_of r)
 
 -- the rule of a row with another place of the support that it names, where it names one
 abbrev pub placed_in : Rule → Row → ℕ → Rule
@@ -219,7 +219,7 @@ support_at supports (Some place) = slice_get supports place
 
 -- the support that a rule names, where it names one that is there
 abbrev pub cited : List Support → Rule → Option Support
-cited supports r = support_at supports (place_of r)
+cited supports r = support_at supports (named_place r)
 
 -- what a rule is made of over the supports
 abbrev pub parts_over : List Support → Rule → RuleParts

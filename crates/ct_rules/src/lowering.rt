@@ -2,7 +2,7 @@
 
 ghost use Rattle.std.specs.Prelude.{◌≡◌, ◌≤◌};
 ghost use Rattle.ct_rules.specs.Removal.{marked, count_below, names_one, lowered_place, lowered};
-ghost use Rattle.ct_rules.specs.Rule.{place_of};
+ghost use Rattle.ct_rules.specs.Rule.{named_place};
 
 use crate::rows::{place_of, with_place};
 use crate::rule::Rule;
@@ -37,7 +37,7 @@ fn lowered_place(gone: &[bool], place: u32) -> u32
 
 /// Whether the rule names a support that is taken out.
 pub fn names_one(gone: &[bool], rule: Rule) -> bool
-    ensures { result ≡ names_one (marked gone.now) (place_of rule) }
+    ensures { result ≡ names_one (marked gone.now) (named_place rule) }
 {
     match place_of(rule) {
         Some(place) => is_gone(gone, place as usize),

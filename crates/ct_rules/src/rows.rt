@@ -8,7 +8,7 @@ ghost use Rattle.ct_weight_rules.specs.Delsarte.{bound_from_dual, dual_above};
 ghost use Rattle.ct_weight_rules.specs.LocalDuals.{local_bound_of, local_above};
 ghost use Rattle.ct_weight_rules.specs.OddSizes.{size_below, odd_size_above};
 ghost use Rattle.ct_rules.specs.Inside.RestedOn.{rested_on_by};
-ghost use Rattle.ct_rules.specs.Rule.{rule_side, place_of, with_place, is_alone, parts_over, row_of};
+ghost use Rattle.ct_rules.specs.Rule.{rule_side, named_place, with_place, is_alone, parts_over, row_of};
 
 use crate::arguments::{Arguments, arguments_of, with_arguments};
 use crate::rule::Rule;
@@ -47,7 +47,7 @@ pub fn rule_side(rule: Rule) -> Side
 
 /// The place of the support that the rule names, where it names one.
 pub fn place_of(rule: Rule) -> Option<u32>
-    ensures { result ≡ place_of rule }
+    ensures { result ≡ named_place rule }
 {
     match arguments_of(rule) {
         Arguments::Place(place) => Some(place),

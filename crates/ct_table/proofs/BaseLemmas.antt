@@ -7,27 +7,27 @@ use Rattle.ct_rule_parts.specs.declared.support.Support.{Support}
 use Rattle.ct_rule_parts.specs.Slot.{slot_of}
 use Rattle.ct_rules.specs.declared.rule.Rule.{Rule}
 use Rattle.ct_rules.specs.Derivation.{LineValue, claims_at, Follows}
-use Rattle.ct_rules.specs.Rule.{place_of, support_at, cited, applies}
+use Rattle.ct_rules.specs.Rule.{named_place, support_at, cited, applies}
 use Rattle.ct_rules.proofs.Applied.{applies_from_premises}
 use Rattle.ct_rules.proofs.LoweredRules.{support_there, premises_of-alike, value_of-alike}
 use Rattle.ct_kept.specs.Kept.{KeptValue, BaseValue, IsKept, IsBase, set_back}
 
 -- a rule that is defined over no supports names none
-pub names_nothing : (r : Rule) (e : Entry) → applies [] r e ≡ true → place_of r ≡ None
-names_nothing r e h = go (place_of r) refl
+pub names_nothing : (r : Rule) (e : Entry) → applies [] r e ≡ true → named_place r ≡ None
+names_nothing r e h = go (named_place r) refl
   where
-    go : (place : Option ℕ) → place_of r ≡ place → place ≡ None
+    go : (place : Option ℕ) → named_place r ≡ place → place ≡ None
     go None names = refl
     go (Some place) names =
         let there = support_there [] r place e h names in
         absurd (none-some there.0 there.1)
 
 -- so it names none of any
-pub cited-nothing : (supports others : List Support) (r : Rule) → place_of r ≡ None → cited supports r ≡ cited others r
+pub cited-nothing : (supports others : List Support) (r : Rule) → named_place r ≡ None → cited supports r ≡ cited others r
 cited-nothing supports others r names = ap (support_at supports) names ∙ sym (ap (support_at others) names)
 
 -- a line over no supports names none
-pub line_names_nothing : (before : List LineValue) (line : LineValue) → Follows [] before line → place_of line.rule ≡ None
+pub line_names_nothing : (before : List LineValue) (line : LineValue) → Follows [] before line → named_place line.rule ≡ None
 line_names_nothing before line follows =
     names_nothing line.rule line.claim.entry
     (applies_from_premises [] line.rule line.claim.entry (map slot_of (claims_at before line.from)) follows.premises)

@@ -7,7 +7,7 @@ use Rattle.ct_rule_parts.specs.declared.support.Support.{Support}
 use Rattle.ct_rule_parts.specs.Slot.{Slot, slot_of, IsBetter}
 use Rattle.ct_rules.specs.declared.rule.Rule.{Rule}
 use Rattle.ct_rules.specs.Derivation.{LineValue}
-use Rattle.ct_rules.specs.Rule.{place_of}
+use Rattle.ct_rules.specs.Rule.{named_place}
 use Rattle.ct_rules.specs.Removal.{Places, without, lowered, lowered_by, voided, lowered_line}
 use Rattle.ct_rules.proofs.LoweredLines.{IsDerivation-lowered}
 use Rattle.ct_kept.specs.Kept.{KeptValue, BaseValue, IsKept, IsBase, IsGround, reason_of}
@@ -23,16 +23,16 @@ lowered_kept gone kept = record {
 }
 
 -- a rule that names no support is as it was, and a line by it
-lowered-same : (gone : Places) (r : Rule) → place_of r ≡ None → lowered gone r ≡ r
+lowered-same : (gone : Places) (r : Rule) → named_place r ≡ None → lowered gone r ≡ r
 lowered-same gone r names = ap (lowered_by gone r) names
 
-lowered_line-same : (gone : Places) (l : LineValue) → place_of l.rule ≡ None → lowered_line gone l ≡ l
+lowered_line-same : (gone : Places) (l : LineValue) → named_place l.rule ≡ None → lowered_line gone l ≡ l
 lowered_line-same gone l names =
     let rule = lowered-same gone l.rule names in
     λ i. record { claim = l.claim; rule = rule i; from = l.from }
 
 lowered_lines-same : (gone : Places) (lines : List LineValue)
-    → ((i : ℕ) (l : LineValue) → slice_get lines i ≡ Some l → place_of l.rule ≡ None)
+    → ((i : ℕ) (l : LineValue) → slice_get lines i ≡ Some l → named_place l.rule ≡ None)
     → map (lowered_line gone) lines ≡ lines
 lowered_lines-same gone [] none = refl
 lowered_lines-same gone (l ∷ lines) none =
@@ -117,7 +117,7 @@ IsKept-lowered gone supports kept good = record {
       slot,
       record {
         no_lines = ground.no_lines;
-        no_support = ap place_of (lowered-same gone l.rule ground.no_support) ∙ ground.no_support;
+        no_support = ap named_place (lowered-same gone l.rule ground.no_support) ∙ ground.no_support;
         best = ground.best;
       },
     )

@@ -17,7 +17,7 @@ use Rattle.ct_rule_parts.proofs.DualLemmas.{behind-bound, behind-odd, behind-loc
 use Rattle.ct_rules.specs.declared.rule.Rule.{Rule}
 use Rattle.ct_rules.specs.declared.rule.Rule.TheVariants.{L10, M10, U11, U12, V9, V10}
 use Rattle.ct_rules.specs.Closed.{IsSatisfied, IsClosed}
-use Rattle.ct_rules.specs.Rule.{row_of, rule_side, place_of, support_at, cited, parts_over, applies}
+use Rattle.ct_rules.specs.Rule.{row_of, rule_side, named_place, support_at, cited, parts_over, applies}
 use Rattle.ct_rules.proofs.Applied.{defined, applies_from_premises}
 use Rattle.ct_rule_parts.proofs.Places.{slice_get-append_left, slice_get-append_right}
 use Rattle.ct_rules.proofs.LoweredRules.{premises_of-alike, value_of-alike}
@@ -111,7 +111,7 @@ named_by supports r p place e side same one own rule = record {
       ∙ ap (λ (s : Side). given_rule (Some one.0) (s, e) place) one.3;
 }
 
-pub named : (supports : List Support) (r : Rule) (place : ℕ) (e : Entry) → place_of r ≡ Some place
+pub named : (supports : List Support) (r : Rule) (place : ℕ) (e : Entry) → named_place r ≡ Some place
     → applies supports r e ≡ true → IsNamed supports r place e
 unfolding row_of
 named supports (L10 p) place e names h =
@@ -162,7 +162,7 @@ pub record IsNew (olds added : List Support) (r : Rule) (e : Entry) : Type 0 whe
 -- a rule gives nothing better than what was closed, but where it names one of the new supports
 pub satisfied_over_more : (olds added : List Support) (bounds : Slot → ℕ) (r : Rule) (e : Entry) → IsClosed olds bounds
     → (IsEntry e → IsNew olds added r e → IsSatisfied (olds ++ added) bounds r e) → IsSatisfied (olds ++ added) bounds r e
-satisfied_over_more olds added bounds r e closed new slots v premises value = go (place_of r) refl
+satisfied_over_more olds added bounds r e closed new slots v premises value = go (named_place r) refl
   where
     h : applies (olds ++ added) r e ≡ true
     h = applies_from_premises (olds ++ added) r e slots premises
@@ -172,7 +172,7 @@ satisfied_over_more olds added bounds r e closed new slots v premises value = go
         closed r e slots v (premises_of-alike olds (olds ++ added) r r e (λ c. refl) same ∙ premises)
         (value_of-alike olds (olds ++ added) r r e (map bounds slots) (λ c. refl) same ∙ value)
 
-    past : (place : ℕ) → place_of r ≡ Some place → length olds ≤ place → IsNamed (olds ++ added) r place e
+    past : (place : ℕ) → named_place r ≡ Some place → length olds ≤ place → IsNamed (olds ++ added) r place e
         → IsNoBetter (rule_side r) v (bounds (rule_side r, e))
     past place names after is =
         let at : length olds + (place - length olds) ≡ place = omega arith in
@@ -189,7 +189,7 @@ satisfied_over_more olds added bounds r e closed new slots v premises value = go
         })
         slots v premises value
 
-    go : (place : Option ℕ) → place_of r ≡ place → IsNoBetter (rule_side r) v (bounds (rule_side r, e))
+    go : (place : Option ℕ) → named_place r ≡ place → IsNoBetter (rule_side r) v (bounds (rule_side r, e))
     go None names = as_before (cited-nothing olds (olds ++ added) r names)
     go (Some place) names = elim (cases_lt place (length olds)) [
       | inl below ↦

@@ -4,7 +4,7 @@ use Rattle.std.specs.Prelude.{if◌then◌else◌}
 use Rattle.std.proofs.lemmas.List.{at_drop_more, at_drop_all}
 use Rattle.ct_rules.specs.Derivation.{LineValue}
 use Rattle.ct_rules.specs.Removal.{Places, names_one}
-use Rattle.ct_rules.specs.Rule.{place_of}
+use Rattle.ct_rules.specs.Rule.{named_place}
 use Rattle.ct_table.specs.Inside.Walk.{moved_place, and_places, moved_places, moved_to, moved_line}
 
 -- a place before the others, after some
@@ -47,7 +47,7 @@ all_moved base moved from i places all past before =
 
 -- so the line moves
 pub line_moves : (base : ℕ) (gone : Places) (moved : List (Option ℕ)) (l : LineValue) (from : List ℕ)
-    → false ≡ names_one gone (place_of l.rule) → Some from ≡ moved_places base moved l.from
+    → false ≡ names_one gone (named_place l.rule) → Some from ≡ moved_places base moved l.from
     → Some (moved_to l from) ≡ moved_line base gone moved l
 line_moves base gone moved l from names places =
     ap (option_map (moved_to l)) places

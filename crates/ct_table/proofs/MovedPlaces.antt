@@ -8,7 +8,7 @@ use Rattle.std.proofs.lemmas.List.Elements.{Contains-append_right}
 use Rattle.std.proofs.lemmas.Option.{none-some, same_Some}
 use Rattle.ct_rules.specs.Removal.{Places, names_one}
 use Rattle.ct_rules.specs.Derivation.{LineValue}
-use Rattle.ct_rules.specs.Rule.{place_of}
+use Rattle.ct_rules.specs.Rule.{named_place}
 use Rattle.ct_table.specs.Inside.Walk.{moved_place, and_places, moved_places, moved_to, moved_line}
 
 -- a place is one of the base, or past it
@@ -118,29 +118,29 @@ moved_places-unmoved base moved (p ∷ from) h =
 -- why a line stays behind
 pub moved_line-none : (base : ℕ) (gone : Places) (moved : List (Option ℕ)) (l : LineValue)
     → moved_line base gone moved l ≡ None
-    → (names_one gone (place_of l.rule) ≡ true) ⊎ HasUnmoved base moved l.from
+    → (names_one gone (named_place l.rule) ≡ true) ⊎ HasUnmoved base moved l.from
 moved_line-none base gone moved l none =
-    go (names_one gone (place_of l.rule)) (moved_places base moved l.from) refl refl none
+    go (names_one gone (named_place l.rule)) (moved_places base moved l.from) refl refl none
   where
-    go : (b : Bool) (o : Option (List ℕ)) → names_one gone (place_of l.rule) ≡ b → moved_places base moved l.from ≡ o
+    go : (b : Bool) (o : Option (List ℕ)) → names_one gone (named_place l.rule) ≡ b → moved_places base moved l.from ≡ o
         → (if b then None else option_map (moved_to l) o) ≡ None
-        → (names_one gone (place_of l.rule) ≡ true) ⊎ HasUnmoved base moved l.from
+        → (names_one gone (named_place l.rule) ≡ true) ⊎ HasUnmoved base moved l.from
     go true o names from is = inl names
     go false None names from is = inr (moved_places-unmoved base moved l.from from)
     go false (Some places) names from is = absurd (none-some (moved_to l places) (sym is))
 
 -- a line moves: what is known of it, and of it as it moves
 pub record IsMoved (base : ℕ) (gone : Places) (moved : List (Option ℕ)) (l k : LineValue) : Type 0 where
-  pub apart : names_one gone (place_of l.rule) ≡ false
+  pub apart : names_one gone (named_place l.rule) ≡ false
   pub from : moved_places base moved l.from ≡ Some k.from
   pub is : k ≡ moved_to l k.from
 
 pub moved_line-some : (base : ℕ) (gone : Places) (moved : List (Option ℕ)) (l k : LineValue)
     → moved_line base gone moved l ≡ Some k → IsMoved base gone moved l k
 moved_line-some base gone moved l k h =
-    go (names_one gone (place_of l.rule)) (moved_places base moved l.from) refl refl h
+    go (names_one gone (named_place l.rule)) (moved_places base moved l.from) refl refl h
   where
-    go : (b : Bool) (o : Option (List ℕ)) → names_one gone (place_of l.rule) ≡ b → moved_places base moved l.from ≡ o
+    go : (b : Bool) (o : Option (List ℕ)) → names_one gone (named_place l.rule) ≡ b → moved_places base moved l.from ≡ o
         → (if b then None else option_map (moved_to l) o) ≡ Some k → IsMoved base gone moved l k
     go true o names from is = absurd (none-some k is)
     go false None names from is = absurd (none-some k is)

@@ -5,7 +5,7 @@ use Rattle.std.proofs.lemmas.List.{take-append-drop}
 use Rattle.std.proofs.lemmas.Option.{slice_get_within, get_or_from_slice_get}
 use Rattle.ct_rule_parts.specs.declared.support.Support.{Support}
 use Rattle.ct_rules.specs.Derivation.{LineValue, Follows}
-use Rattle.ct_rules.specs.Rule.{place_of}
+use Rattle.ct_rules.specs.Rule.{named_place}
 use Rattle.ct_rule_parts.proofs.Places.{slice_get-append_right}
 use Rattle.ct_rules.specs.Removal.{Places, names_one, voided}
 use Rattle.ct_rules.proofs.VoidedSupports.{premises_of-voided, value_of-voided, IsClosed-voided}
@@ -19,7 +19,7 @@ use Rattle.ct_table.proofs.WalkLemmas.{slice_get-front}
 
 -- a line whose rule names none of them follows without them
 Follows-voided : (gone : Places) (supports : List Support) (before : List LineValue) (line : LineValue)
-    → names_one gone (place_of line.rule) ≡ false → Follows supports before line → Follows (voided gone supports) before line
+    → names_one gone (named_place line.rule) ≡ false → Follows supports before line → Follows (voided gone supports) before line
 Follows-voided gone supports before line apart follows = record {
   earlier = follows.earlier;
   side = follows.side;
@@ -29,7 +29,7 @@ Follows-voided gone supports before line apart follows = record {
 
 -- no line of the table names one of them
 abbrev NamesNone : Places → LineValue → Type 0
-NamesNone gone l = names_one gone (place_of l.rule) ≡ false
+NamesNone gone l = names_one gone (named_place l.rule) ≡ false
 
 names_none : (gone : Places) (supports : List Support) (old : KeptValue) (base : BaseValue) (closing : ClosingValue)
     → IsTable supports old base closing.work → All (NamesNone gone) (drop old.base old.lines)

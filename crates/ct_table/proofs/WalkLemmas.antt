@@ -11,7 +11,7 @@ use Rattle.ct_words.specs.Entry.{IsEntry}
 use Rattle.ct_rule_parts.specs.declared.support.Support.{Support}
 use Rattle.ct_rule_parts.specs.Slot.{Slot, slot_of, claim_at, IsBetter}
 use Rattle.ct_rules.specs.Derivation.{LineValue, claims_at, Follows}
-use Rattle.ct_rules.specs.Rule.{place_of, value_of}
+use Rattle.ct_rules.specs.Rule.{named_place, value_of}
 use Rattle.ct_rule_parts.proofs.Places.{slice_get-append_right, slice_get_last}
 use Rattle.ct_rules.specs.Removal.{Places, names_one, RestsOnPlaces, voided}
 use Rattle.ct_rules.proofs.VoidedSupports.{premises_of-voided, value_of-voided}
@@ -251,7 +251,7 @@ module _ (gone : Places) (supports : List Support) (old : KeptValue) (good : IsK
   behind : moved_line old.base gone moved l ≡ None → RestsOnPlaces old.lines gone i
   behind none = go (moved_line-none old.base gone moved l none)
     where
-      go : (names_one gone (place_of l.rule) ≡ true) ⊎ HasUnmoved old.base moved l.from → RestsOnPlaces old.lines gone i
+      go : (names_one gone (named_place l.rule) ≡ true) ⊎ HasUnmoved old.base moved l.from → RestsOnPlaces old.lines gone i
       go (inl names) = ([], (l, found, names))
       go (inr (p, among, unmoved)) =
           let before =

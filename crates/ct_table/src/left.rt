@@ -5,7 +5,7 @@ ghost use Rattle.ct_words.specs.Entry.{IsEntry};
 ghost use Rattle.ct_rule_parts.specs.declared.support.Support.{Support};
 ghost use Rattle.ct_rules.specs.Removal.{marked, names_one, voided};
 ghost use Rattle.ct_rules.specs.Derivation.{LineValue};
-ghost use Rattle.ct_rules.specs.Rule.{place_of};
+ghost use Rattle.ct_rules.specs.Rule.{named_place};
 ghost use Rattle.ct_table.specs.Closing.{HasMoreLines};
 ghost use Rattle.ct_kept.specs.Kept.{KeptValue, BaseValue, set_back};
 ghost use Rattle.ct_slots.specs.Places.{AreSupportPlaces};

@@ -3,7 +3,7 @@ use Rattle.std.proofs.Common.{◌≡◌, ℕ, ◌+◌, ◌-◌, ◌*◌, ◌^◌
 use Rattle.std.specs.Prelude.{fold}
 use Rattle.std.proofs.lemmas.Bool.{le-ltb}
 use Rattle.std.proofs.lemmas.List.Sums.{fold-append, fold_more}
-use Rattle.ct_text.specs.Number.{number_of, is_number, decimal_value}
+use Rattle.ct_text.specs.Number.{number_of, is_numeral, decimal_value}
 
 abbrev pub step : ℕ → ℕ → ℕ
 step value b = 10 * value + (b - 48)
@@ -37,10 +37,10 @@ when_not true v h = ap (λ t. cond t (Some v) None) (le-ltb v (2 ^ 64) h)
 -- a text whose value is too great writes no number
 pub none_above : (text : List ℕ) → 2 ^ 64 ≤ decimal_value text → None ≡ number_of text
 unfolding number_of
-none_above text h = sym (when_not (is_number text) (decimal_value text) h)
+none_above text h = sym (when_not (is_numeral text) (decimal_value text) h)
 
 -- decimal digits with a value below 2 ^ 64 write it
-pub some_below : (text : List ℕ) (v : ℕ) → is_number text ≡ true → v ≡ decimal_value text → v < 2 ^ 64 → Some v ≡ number_of text
+pub some_below : (text : List ℕ) (v : ℕ) → is_numeral text ≡ true → v ≡ decimal_value text → v < 2 ^ 64 → Some v ≡ number_of text
 unfolding number_of
 some_below text v digits is below =
     let small : ltb (decimal_value text) (2 ^ 64) ≡ true = lt-ltb (decimal_value text) (2 ^ 64) (omega arith) in

@@ -3,7 +3,7 @@
 ghost use Rattle.std.specs.Prelude.{◌≡◌, ◌-◌};
 ghost use Rattle.std.specs.List.{list_all};
 ghost use Rattle.std.specs.Char.{is_ascii_digit};
-ghost use Rattle.ct_text.specs.Number.{number_of, is_number};
+ghost use Rattle.ct_text.specs.Number.{number_of, is_numeral};
 
 /// Whether each byte is a decimal digit.
 fn are_digits(text: &[u8]) -> bool
@@ -14,7 +14,7 @@ fn are_digits(text: &[u8]) -> bool
 
 /// Whether the text is decimal digits without a leading zero.
 fn is_number_text(text: &[u8]) -> bool
-    ensures { result ≡ is_number text.now }
+    ensures { result ≡ is_numeral text.now }
 {
     are_digits(text) && (text.len() == 1 || (text.len() > 1 && text[0] != b'0'))
 }

@@ -14,7 +14,7 @@ use Rattle.ct_rules.specs.Rule.{rule_side, arguments_of, with_arguments, with_pl
 use Rattle.ct_rules.specs.Listing.{rule_named}
 use Rattle.ct_rules.proofs.RuleNames.{argued-side, rule_named-is}
 use Rattle.ct_rules.proofs.LawfulRows.{parts_of-placed}
-use Rattle.ct_piece.specs.Piece.{PieceValue, place_of}
+use Rattle.ct_piece.specs.Piece.{PieceValue, place_of_id}
 use Rattle.ct_verify.specs.StatedRule.{first_argument, second_argument, first_id, numbered, citing, with_words, stated_rule, resolved}
 use Rattle.ct_text.specs.Side.{side_of_word}
 use Rattle.ct_verify.specs.StatedLine.{StatedLineValue, entry_of_words, bound_of_word, premises_of_words, claim_of, line_from, with_rule, with_reason, with_value, line_of}
@@ -110,7 +110,7 @@ line_of-side (number ∷ side ∷ n ∷ d ∷ word ∷ words) l h = at (bytes_eq
 pub resolved-side : (pieces : List PieceValue) (rule : Rule) (id : Option (List ℕ)) (r : Rule) → resolved pieces rule id ≡ Some r → rule_side r ≡ rule_side rule
 resolved-side pieces rule None r h = let same : rule ≡ r = cc in ap rule_side (sym same)
 resolved-side pieces rule (Some id) r h =
-    let found = mapped (with_place rule) (place_of id pieces) r h in
+    let found = mapped (with_place rule) (place_of_id id pieces) r h in
     ap rule_side (sym found.1) ∙ ap (λ (p : RuleParts). p.side) (parts_of-placed rule found.0 None)
 
 pub resolved-sides : (pieces : List PieceValue) (rule : Rule) (id : Option (List ℕ)) (side : Side) (o : Option Rule) → o ≡ resolved pieces rule id → rule_side rule ≡ side

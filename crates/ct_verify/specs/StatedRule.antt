@@ -9,7 +9,7 @@ use Rattle.ct_rules.specs.declared.arguments.Arguments.TheVariants.{Nothing, Num
 use Rattle.ct_rules.specs.declared.rule.Rule.{Rule}
 use Rattle.ct_rules.specs.Rule.{arguments_of, with_arguments, with_place}
 use Rattle.ct_rules.specs.Listing.{rule_named}
-use Rattle.ct_piece.specs.Piece.{PieceValue, place_of}
+use Rattle.ct_piece.specs.Piece.{PieceValue, place_of_id}
 use Rattle.ct_verify.specs.declared.stated_rule.StatedRule.{StatedRule}
 
 -- the number that an argument writes; one from 2^32 on stands for the greatest below it: neither is an argument of a rule at any entry
@@ -58,4 +58,4 @@ at_place rule place = option_map (with_place rule) place
 -- a stated rule over the pieces: where it names one, with its place, and nothing where no piece has the id
 abbrev pub resolved : List PieceValue → Rule → Option (List ℕ) → Option Rule
 resolved pieces rule None = Some rule
-resolved pieces rule (Some id) = at_place rule (place_of id pieces)
+resolved pieces rule (Some id) = at_place rule (place_of_id id pieces)

@@ -3,7 +3,7 @@
 ghost use Rattle.std.specs.Prelude.{◌≡◌, ◌-◌, ◌^◌, nat_lt, if◌then◌else◌, ◌∷◌, [], List, ℕ, Option, Some, None, IfSome, map, option_map};
 ghost use Rattle.ct_text.specs.Number.{number_of};
 ghost use Rattle.ct_names.specs.Id.{is_id};
-ghost use Rattle.ct_piece.specs.Piece.{place_of};
+ghost use Rattle.ct_piece.specs.Piece.{place_of_id};
 ghost use Rattle.ct_verify.specs.StatedRule.{argument_of, first_argument, second_argument, first_id, numbered, citing, with_words, stated_rule, resolved};
 
 use ct_names::Id;

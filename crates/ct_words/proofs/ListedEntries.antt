@@ -8,7 +8,7 @@ use Rattle.ct_words.specs.declared.limits.TheConstants.{MAX_N}
 use Rattle.ct_words.proofs.Counting.Words.{Contains-map}
 use Rattle.ct_words.specs.declared.entry.Entry.{Entry}
 use Rattle.ct_words.specs.Entry.{IsEntry, is_entry}
-use Rattle.ct_words.specs.TableEntries.{column, columns_of, table_entries}
+use Rattle.ct_words.specs.TableEntries.{column, columns_of_weight, table_entries}
 use Rattle.ct_words.proofs.EntryLemmas.{WeightFits, Limits, entry_limits}
 use Rattle.ct_words.proofs.InLists.{Contains-range_with_len, Contains-flat_map, Contains-filter}
 use Rattle.ct_words.proofs.ColumnLemmas.{entry_at}
@@ -23,34 +23,34 @@ in_column e entry =
     (Contains-map (entry_at e.d e.w) (range_with_len 1 MAX_N) e.n lengths)
 
 -- and so among the columns of its weight
-in_columns : (e : Entry) → IsEntry e → Contains (columns_of e.w) e
-unfolding columns_of
+in_columns : (e : Entry) → IsEntry e → Contains (columns_of_weight e.w) e
+unfolding columns_of_weight
 in_columns e entry =
     let limits = entry_limits e entry in
     let distances = Contains-range_with_len 3 (MAX_N - 2) e.d limits.distance_from (omega (arith, limits.distance_to)) in
     Contains-flat_map (λ d. column d e.w) (range_with_len 3 (MAX_N - 2)) e.d e distances (in_column e entry)
 
 -- and so among those of all weights
-in_weights : (e : Entry) (w : Option ℕ) → Limits e → e.w ≡ w → Contains (columns_of w) e → Contains table_entries e
+in_weights : (e : Entry) (w : Option ℕ) → Limits e → e.w ≡ w → Contains (columns_of_weight w) e → Contains table_entries e
 unfolding table_entries
 in_weights e None limits same there =
-    Contains-append_left (columns_of None) (flat_map (λ w. columns_of (Some w)) (range_with_len 0 (MAX_N + 1))) e there
+    Contains-append_left (columns_of_weight None) (flat_map (λ w. columns_of_weight (Some w)) (range_with_len 0 (MAX_N + 1))) e there
 in_weights e (Some w) limits same there =
     let fits = subst (WeightFits e) same limits.weight in
     let weights = Contains-range_with_len 0 (MAX_N + 1) w (omega arith) (omega (arith, fits.2, limits.length_to)) in
-    Contains-append_right (columns_of None) (flat_map (λ k. columns_of (Some k)) (range_with_len 0 (MAX_N + 1))) e
-    (Contains-flat_map (λ k. columns_of (Some k)) (range_with_len 0 (MAX_N + 1)) w e weights there)
+    Contains-append_right (columns_of_weight None) (flat_map (λ k. columns_of_weight (Some k)) (range_with_len 0 (MAX_N + 1))) e
+    (Contains-flat_map (λ k. columns_of_weight (Some k)) (range_with_len 0 (MAX_N + 1)) w e weights there)
 
 -- each entry of the table is listed
 pub listed : (e : Entry) → IsEntry e → Contains table_entries e
 listed e entry = in_weights e e.w (entry_limits e entry) refl (in_columns e entry)
 
 pub count : length table_entries ≡ 7770
-unfolding table_entries columns_of column
+unfolding table_entries columns_of_weight column
 count = refl
 
 all_pass : list_all is_entry table_entries ≡ true
-unfolding table_entries columns_of column
+unfolding table_entries columns_of_weight column
 all_pass = refl
 
 each_passes : (es : List Entry) → list_all is_entry es ≡ true → All IsEntry es
@@ -76,7 +76,7 @@ rises low [] = true
 rises low (e ∷ es) = nat_lt low (rank e) && rises (rank e) es
 
 all_rise : rises 0 table_entries ≡ true
-unfolding table_entries columns_of column rises rank weight_rank
+unfolding table_entries columns_of_weight column rises rank weight_rank
 all_rise = refl
 
 above : (low : ℕ) (es : List Entry) → rises low es ≡ true → All (λ e. low < rank e) es

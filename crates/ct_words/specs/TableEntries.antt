@@ -11,9 +11,9 @@ unfoldable pub column : ℕ → Option ℕ → List Entry
 column d w = filter is_entry (map (λ n. record { n = n; d = d; w = w }) (range_with_len 1 MAX_N))
 
 -- the columns of a weight, or those without one, by their distances from 3 to MAX_N
-unfoldable pub columns_of : Option ℕ → List Entry
-columns_of w = flat_map (λ d. column d w) (range_with_len 3 (MAX_N - 2))
+unfoldable pub columns_of_weight : Option ℕ → List Entry
+columns_of_weight w = flat_map (λ d. column d w) (range_with_len 3 (MAX_N - 2))
 
 -- the entries of the table: those without weight, and then those of each weight from 0 to MAX_N
 unfoldable pub table_entries : List Entry
-table_entries = columns_of None ++ flat_map (λ w. columns_of (Some w)) (range_with_len 0 (MAX_N + 1))
+table_entries = columns_of_weight None ++ flat_map (λ w. columns_of_weight (Some w)) (range_with_len 0 (MAX_N + 1))

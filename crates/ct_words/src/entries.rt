@@ -2,7 +2,7 @@
 
 ghost use Rattle.std.specs.Prelude.{◌≡◌, ◌++◌, All, OnOk, IfOk};
 ghost use Rattle.ct_words.specs.Entry.{IsEntry};
-ghost use Rattle.ct_words.specs.TableEntries.{column, columns_of, table_entries};
+ghost use Rattle.ct_words.specs.TableEntries.{column, columns_of_weight, table_entries};
 
 use crate::entry::Entry;
 use crate::limits::MAX_N;
@@ -23,7 +23,7 @@ fn put_column(entries: &mut Vec<Entry>, d: u32, w: Option<u32>) -> Result<(), Al
 
 /// Puts the entries of the columns of a weight, or of those without one, at the end, by distance.
 fn put_columns(entries: &mut Vec<Entry>, w: Option<u32>) -> Result<(), AllocError>
-    ensures { OnOk result (entries.new.items ≡ entries.old.items ++ columns_of w) }
+    ensures { OnOk result (entries.new.items ≡ entries.old.items ++ columns_of_weight w) }
 {
     for d in 3..MAX_N + 1 {
         put_column(entries, d, w)?;

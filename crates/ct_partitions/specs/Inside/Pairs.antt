@@ -2,7 +2,7 @@
 use Rattle.std.specs.Prelude.{ℕ, ◌+◌, ◌-◌, ◌*◌, min, List, length, map, fold, drop, sum_by, slice_index_or}
 use Rattle.std.specs.List.{zip}
 use Rattle.ct_classes.specs.Partition.{PartitionValue}
-use Rattle.ct_partitions.specs.Product.{Factors, weight_of, pair_distance, weight_gap, no_partition}
+use Rattle.ct_partitions.specs.Product.{Factors, partition_weight, pair_distance, weight_gap, no_partition}
 
 -- no pair: what stands at no place
 abbrev pub no_pair : Factors
@@ -16,7 +16,7 @@ nearest_at pairs place least =
 
 -- twice the difference of the weights of two partitions
 abbrev pub weights_apart : PartitionValue → PartitionValue → ℕ
-weights_apart p q = 2 * ((weight_of p - weight_of q) + (weight_of q - weight_of p))
+weights_apart p q = 2 * ((partition_weight p - partition_weight q) + (partition_weight q - partition_weight p))
 
 -- how many words the product of two partitions has
 abbrev pub size_of_pair : PartitionValue → PartitionValue → ℕ

@@ -5,7 +5,7 @@ use Rattle.ct_words.specs.Code.{CodeValue}
 use Rattle.ct_kind.specs.Named.{NamedCode}
 use Rattle.ct_files.specs.ByKind.{kept_over}
 use Rattle.ct_files.specs.Checked.{IsKept}
-use Rattle.ct_piece.specs.Piece.{PieceValue, place_of}
+use Rattle.ct_piece.specs.Piece.{PieceValue, place_of_id}
 use Rattle.ct_piece.specs.Codes.{named_code, code_of_place}
 
 -- the codes that are kept, once they are made, beside pieces that stand after others, whose codes are known
@@ -33,4 +33,4 @@ code_found pieces (Some place) = code_of_place pieces place
 -- the place of the piece of the other id, where one is named and a piece has it
 abbrev pub other_place : Option (List ℕ) → List PieceValue → Option ℕ
 other_place None pieces = None
-other_place (Some id) pieces = place_of id pieces
+other_place (Some id) pieces = place_of_id id pieces

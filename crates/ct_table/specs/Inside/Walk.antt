@@ -1,7 +1,7 @@
 -- One walk over the later lines of a table, once the supports of a set give nothing: each line moves, or stays behind.
 use Rattle.std.specs.Prelude.{ℕ, ◌-◌, nat_lt, if◌then◌else◌, List, [], ◌∷◌, ◌++◌, length, slice_index_or, Option, Some, None, option_map}
 use Rattle.ct_rules.specs.Derivation.{LineValue}
-use Rattle.ct_rules.specs.Rule.{place_of}
+use Rattle.ct_rules.specs.Rule.{named_place}
 use Rattle.ct_kept.specs.Kept.{KeptValue, with_line_put}
 use Rattle.ct_rules.specs.Removal.{Places, names_one}
 
@@ -26,7 +26,7 @@ moved_to l from = record { claim = l.claim; rule = l.rule; from = from }
 -- a line as it moves, none where it stays behind: its rule names a support of the set, or it names a line that has not moved
 abbrev pub moved_line : ℕ → Places → List (Option ℕ) → LineValue → Option LineValue
 moved_line base gone moved l =
-    if names_one gone (place_of l.rule) then None else option_map (moved_to l) (moved_places base moved l.from)
+    if names_one gone (named_place l.rule) then None else option_map (moved_to l) (moved_places base moved l.from)
 
 -- what is kept, with the line at its end if there is one
 abbrev pub with_moved : KeptValue → Option LineValue → KeptValue

@@ -3,7 +3,7 @@ use Rattle.std.specs.Option.{option_to_list}
 use Rattle.std.proofs.lemmas.List.{at_drop_more, at_drop_all}
 use Rattle.std.proofs.lemmas.Option.{slice_get_read}
 use Rattle.ct_rules.specs.declared.rule.Rule.{Rule}
-use Rattle.ct_rules.specs.Rule.{place_of}
+use Rattle.ct_rules.specs.Rule.{named_place}
 use Rattle.ct_rules.specs.Derivation.{LineValue}
 use Rattle.ct_derive.specs.Pieces.{cited_places}
 use Rattle.ct_derive.specs.Pruning.{with_marks}
@@ -16,7 +16,7 @@ mark_cited-requires c =
     let at = slice_get_read lines _ c.loop-line.line-index c.line-item.result refl c.loop-line-test.true c.line-item.is in
     let rule = ap (λ (l : LineValue). l.rule) c.line.view_is in
     let within = subst (λ n. All (λ p. p < n) (cited_places c.args.lines.now)) (sym c.loop-line.auto.marks) c.requires in
-    subst (λ (r : Rule). All (λ p. p < length c.loop-line.marks) (option_to_list (place_of r))) (sym rule)
+    subst (λ (r : Rule). All (λ p. p < length c.loop-line.marks) (option_to_list (named_place r))) (sym rule)
     (cited_of_line (λ p. p < length c.loop-line.marks) lines c.loop-line.line-index c.line-item.result at within)
 
 pub loop-line-preserved : goal.loop-line-preserved
@@ -27,9 +27,9 @@ loop-line-preserved c =
     let rule = ap (λ (l : LineValue). l.rule) c.line.view_is in
     c.loop-line.invariant
     ∙ at_drop_more (λ (ls : List LineValue). with_marks (cited_places ls) c.loop-line.marks) lines i c.line-item.result c.loop-line-test.true
-    ∙ with_marks-cons (place_of (get_or c.args.lines.now c.loop-line.line-index c.line-item.result).rule) rest c.loop-line.marks
-    ∙ ap (λ (l : LineValue). with_marks (cited_places (drop (c.loop-line.line-index + 1) c.args.lines.now)) (with_marks (option_to_list (place_of l.rule)) c.loop-line.marks)) (sym c.line-item.is)
-    ∙ ap (λ (r : Rule). with_marks (cited_places (drop (c.loop-line.line-index + 1) c.args.lines.now)) (with_marks (option_to_list (place_of r)) c.loop-line.marks)) (sym rule)
+    ∙ with_marks-cons (named_place (get_or c.args.lines.now c.loop-line.line-index c.line-item.result).rule) rest c.loop-line.marks
+    ∙ ap (λ (l : LineValue). with_marks (cited_places (drop (c.loop-line.line-index + 1) c.args.lines.now)) (with_marks (option_to_list (named_place l.rule)) c.loop-line.marks)) (sym c.line-item.is)
+    ∙ ap (λ (r : Rule). with_marks (cited_places (drop (c.loop-line.line-index + 1) c.args.lines.now)) (with_marks (option_to_list (named_place r)) c.loop-line.marks)) (sym rule)
     ∙ ap (with_marks rest) (sym c.mark_cited.ensures)
 
 pub returns : goal.returns

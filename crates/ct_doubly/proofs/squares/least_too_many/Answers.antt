@@ -5,7 +5,7 @@ use Rattle.std.proofs.lemmas.Bool.{cases_lt}
 use Rattle.ct_johnson.specs.declared.columns.TheConstants.{MAX_COUNTED}
 use Rattle.ct_johnson.specs.Bounds.{least_from}
 use Rattle.ct_johnson.proofs.PairCounts.{least_from-found, least_from-none, tried_more}
-use Rattle.ct_doubly.specs.Doubly.{are_too_many}
+use Rattle.ct_doubly.specs.Doubly.{are_too_many_by_squares}
 use Rattle.ct_doubly.proofs.squares.least_too_many.Goals as goal
 
 -- what is found
@@ -27,13 +27,13 @@ pub returns-then-are_too_many-clause-value : goal.returns-then-are_too_many-clau
 returns-then-are_too_many-clause-value c =
     let last = c.last_to_try-words-end.ensures.counted in
     let few : c.loop-words.words ≤ MAX_COUNTED = omega arith in
-    sym (found (are_too_many c.args.n1 c.args.w1 c.args.n2 c.args.w2 c.args.half) c.loop-words.words c.loop-words.auto.words few
+    sym (found (are_too_many_by_squares c.args.n1 c.args.w1 c.args.n2 c.args.w2 c.args.half) c.loop-words.words c.loop-words.auto.words few
     c.loop-words.invariant (sym c.are_too_many.ensures ∙ c.if-are_too_many.true))
 
 pub returns-clause-value : goal.returns-clause-value
 returns-clause-value c =
     let over : c.last_to_try-words-end.result < c.loop-words.words = omega arith in
-    sym (none (are_too_many c.args.n1 c.args.w1 c.args.n2 c.args.w2 c.args.half) c.last_to_try-words-end.result c.loop-words.words over
+    sym (none (are_too_many_by_squares c.args.n1 c.args.w1 c.args.n2 c.args.w2 c.args.half) c.last_to_try-words-end.result c.loop-words.words over
     c.loop-words.invariant c.last_to_try-words-end.ensures.rest)
 
 pub loop-words-init : goal.loop-words-init
@@ -41,7 +41,7 @@ loop-words-init c = λ k some below. absurd (omega (arith, some, below))
 
 pub loop-words-preserved : goal.loop-words-preserved
 loop-words-preserved c =
-    tried_more (are_too_many c.args.n1 c.args.w1 c.args.n2 c.args.w2 c.args.half) c.loop-words.words c.loop-words.invariant
+    tried_more (are_too_many_by_squares c.args.n1 c.args.w1 c.args.n2 c.args.w2 c.args.half) c.loop-words.words c.loop-words.invariant
     (sym c.are_too_many.ensures ∙ c.if-are_too_many.false)
 
 pub returns-then-are_too_many-clause-some : goal.returns-then-are_too_many-clause-some

@@ -3,7 +3,7 @@ use Rattle.std.specs.List.{list_any}
 use Rattle.ct_kind.specs.declared.evidence.Evidence.{Evidence}
 use Rattle.ct_partition_files.specs.ProductKind.{Ids, ids_of}
 use Rattle.ct_files.specs.PartNames.{has_name}
-use Rattle.ct_files.specs.ByKind.{parts_of}
+use Rattle.ct_files.specs.ByKind.{ids_of_parts}
 use Rattle.ct_files.proofs.named_parts.has_part.Goals as goal
 
 -- the ids of pairs
@@ -20,4 +20,4 @@ returns-in-Product c =
     c.has_of_pairs.ensures
     ∙ ap (λ (pairs : List Ids). list_any (λ (pair : Ids). has_name c.args.names.now pair.0 || has_name c.args.names.now pair.1) pairs) c.as_slice.ensures
     ∙ pairs_any (has_name c.args.names.now) c.in-Product.pairs
-    ∙ ap (λ (e : Evidence). list_any (has_name c.args.names.now) (parts_of e)) (sym c.in-Product.is)
+    ∙ ap (λ (e : Evidence). list_any (has_name c.args.names.now) (ids_of_parts e)) (sym c.in-Product.is)

@@ -1,7 +1,7 @@
 use Rattle.std.proofs.Common.{◌≡◌, ℕ, Result, Ok, sym, subst}
 use Rattle.toml.specs.View.{view}
 use Rattle.ct_duals.specs.declared.dual.Dual.{Dual}
-use Rattle.ct_dual_files.specs.Dual.{dual_of, johnson_dual_of, odd_of, local_dual_of}
+use Rattle.ct_dual_files.specs.Dual.{document_dual, johnson_dual_of, odd_of, local_dual_of}
 use Rattle.ct_fields.specs.Reads.{Reads}
 use Rattle.ct_fields.specs.declared.fault.DocumentFault.{DocumentFault}
 use Rattle.ct_fields.proofs.StepLemmas.{bind-at}
@@ -15,7 +15,7 @@ pub returns-in_ok-dual-in-Dual : goal.returns-in_ok-dual-in-Dual
 returns-in_ok-dual-in-Dual c =
     let table = view c.args.document.now in
     let next : Dual → Result Evidence DocumentFault = λ d. Ok (evidence.Dual d) in
-    subst (λ (k : Kind). evidence_by k table ≡ Ok (evidence.Dual c.in_ok-dual-in-Dual.dual)) (sym c.in-Dual.is) (bind-at (dual_of table) next c.in_ok-dual-in-Dual.dual c.in_ok-dual-in-Dual.ensures.reads)
+    subst (λ (k : Kind). evidence_by k table ≡ Ok (evidence.Dual c.in_ok-dual-in-Dual.dual)) (sym c.in-Dual.is) (bind-at (document_dual table) next c.in_ok-dual-in-Dual.dual c.in_ok-dual-in-Dual.ensures.reads)
 
 pub returns-in_ok-dual-in-JohnsonDual : goal.returns-in_ok-dual-in-JohnsonDual
 returns-in_ok-dual-in-JohnsonDual c =

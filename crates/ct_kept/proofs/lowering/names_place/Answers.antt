@@ -3,7 +3,7 @@ use Rattle.std.proofs.lemmas.Bool.{false≢true}
 use Rattle.std.proofs.lemmas.List.{take_more}
 use Rattle.std.proofs.lemmas.List.Elements.{All-nil, All-cons, All-append}
 use Rattle.ct_rules.specs.Derivation.{LineValue}
-use Rattle.ct_rules.specs.Rule.{place_of}
+use Rattle.ct_rules.specs.Rule.{named_place}
 use Rattle.ct_rules.specs.Removal.{names_one, marked}
 use Rattle.ct_kept.proofs.lowering.names_place.Goals as goal
 
@@ -11,20 +11,20 @@ pub returns-then-names_one : goal.returns-then-names_one
 returns-then-names_one c = (
   λ no. absurd (false≢true (sym no)),
   λ none.
-      let named : names_one (marked c.args.gone.now) (place_of c.line-item.result.rule) ≡ true =
-      ap (λ (l : LineValue). names_one (marked c.args.gone.now) (place_of l.rule)) (sym c.line.view_is)
+      let named : names_one (marked c.args.gone.now) (named_place c.line-item.result.rule) ≡ true =
+      ap (λ (l : LineValue). names_one (marked c.args.gone.now) (named_place l.rule)) (sym c.line.view_is)
       ∙ sym c.names_one.ensures ∙ c.if-names_one.true in
-      let apart : names_one (marked c.args.gone.now) (place_of c.line-item.result.rule) ≡ false =
-      ap (λ (l : LineValue). names_one (marked c.args.gone.now) (place_of l.rule)) c.line-item.is
+      let apart : names_one (marked c.args.gone.now) (named_place c.line-item.result.rule) ≡ false =
+      ap (λ (l : LineValue). names_one (marked c.args.gone.now) (named_place l.rule)) c.line-item.is
       ∙ none c.loop-line.line-index c.line-item.result c.loop-line-test.true in
       absurd (false≢true (sym apart ∙ named)),
 )
 
 pub loop-line-preserved : goal.loop-line-preserved
 loop-line-preserved c =
-    let P : LineValue → Type 0 = λ k. names_one (marked c.args.gone.now) (place_of k.rule) ≡ false in
+    let P : LineValue → Type 0 = λ k. names_one (marked c.args.gone.now) (named_place k.rule) ≡ false in
     let here : P c.line-item.result =
-    ap (λ (l : LineValue). names_one (marked c.args.gone.now) (place_of l.rule)) (sym c.line.view_is)
+    ap (λ (l : LineValue). names_one (marked c.args.gone.now) (named_place l.rule)) (sym c.line.view_is)
     ∙ sym c.names_one.ensures ∙ c.if-names_one.false in
     subst (All P)
     (ap (λ (k : LineValue). take c.loop-line.line-index c.args.lines.now ++ k ∷ []) c.line-item.is
@@ -35,7 +35,7 @@ loop-line-preserved c =
 pub returns : goal.returns
 returns c = (
   λ no.
-      subst (All (λ (k : LineValue). names_one (marked c.args.gone.now) (place_of k.rule) ≡ false))
+      subst (All (λ (k : LineValue). names_one (marked c.args.gone.now) (named_place k.rule) ≡ false))
       (take_all c.loop-line.line-index c.args.lines.now c.loop-line-test.false) c.loop-line.invariant,
   λ none. refl,
 )

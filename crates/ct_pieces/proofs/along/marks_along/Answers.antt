@@ -4,7 +4,7 @@ use Rattle.std.proofs.lemmas.List.{map-append, take_all, take_more}
 use Rattle.std.proofs.lemmas.Option.{slice_get-get_or}
 use Rattle.ct_files.specs.PartNames.{has_name}
 use Rattle.ct_piece.specs.Piece.{PieceValue}
-use Rattle.ct_piece.specs.Withdrawal.{taken_along, is_among}
+use Rattle.ct_piece.specs.Withdrawal.{taken_along, is_id_among}
 use Rattle.ct_pieces.proofs.AlongPass.{AreGone, AreGone-more, AreGone-same, goes_is}
 use Rattle.ct_pieces.proofs.along.marks_along.Goals as goal
 use Rattle.ct_pieces.proofs.along.marks_along.Goals.{then-gone+in_ok-put_name, else-gone}
@@ -15,11 +15,11 @@ loop-piece-preserved c =
     let id = c.args.id in
     let k = c.loop-piece.piece-index in
     let p = c.piece-item.result in
-    let mark : PieceValue → Bool = λ (q : PieceValue). is_among (taken_along pieces id) q.id in
+    let mark : PieceValue → Bool = λ (q : PieceValue). is_id_among (taken_along pieces id) q.id in
     let within : k < length pieces = c.loop-piece-test.true in
     let here : slice_get pieces k ≡ Some p = slice_get-get_or pieces k p within ∙ ap Some (sym c.piece-item.is) in
     let gone = c.loop-piece.invariant.1 in
-    let goes : c.goes-gone.result ≡ is_among (taken_along pieces id) p.id =
+    let goes : c.goes-gone.result ≡ is_id_among (taken_along pieces id) p.id =
     c.goes-gone.ensures ∙ goes_is pieces id (has_name c.loop-piece.names) k p c.requires here gone in
     let marks : c.push.new.self.items ≡ map mark (take (k + 1) pieces) =
     c.in_ok-push.ensures.items
@@ -35,6 +35,6 @@ loop-piece-preserved c =
 
 pub returns : goal.returns
 returns c =
-    let mark : PieceValue → Bool = λ (p : PieceValue). is_among (taken_along c.args.pieces.now c.args.id) p.id in
+    let mark : PieceValue → Bool = λ (p : PieceValue). is_id_among (taken_along c.args.pieces.now c.args.id) p.id in
     let past = c.loop-piece-test.false in
     c.loop-piece.invariant.0 ∙ ap (map mark) (take_all c.loop-piece.piece-index c.args.pieces.now (omega (arith, past)))

@@ -6,7 +6,7 @@ use Rattle.ct_words.specs.Code.{CodeValue}
 use Rattle.ct_kind.specs.declared.evidence.Evidence.{Evidence}
 use Rattle.ct_kind.specs.declared.fault.SubmitFault.{SubmitFault}
 use Rattle.ct_kind.specs.declared.fault.SubmitFault.TheVariants as fault
-use Rattle.ct_piece.specs.Piece.{PieceValue, place_of}
+use Rattle.ct_piece.specs.Piece.{PieceValue, place_of_id}
 use Rattle.ct_files.specs.ByKind.{is_kept}
 use Rattle.ct_piece.specs.Inside.Kept.{kept_codes, code_there, code_found, other_place}
 use Rattle.ct_piece.proofs.KeptLemmas.{kept-all, kept-some, kept-set, kept-grows, kept-trans}
@@ -97,7 +97,7 @@ pub make_code-code_of_parts-requires-clause-part : goal.make_code-code_of_parts-
 make_code-code_of_parts-requires-clause-part t c =
     let ps = c.args.pieces.now in
     let id = c.args.build.now.part in
-    subst (λ (found : Option ℕ). IfSome found (λ (i : ℕ). i < length ps)) (sym (c.place_of-part.ensures ∙ ap (place_of id) c.pieces_before-before.ensures)) (part-within id ps c.args.place)
+    subst (λ (found : Option ℕ). IfSome found (λ (i : ℕ). i < length ps)) (sym (c.place_of-part.ensures ∙ ap (place_of_id id) c.pieces_before-before.ensures)) (part-within id ps c.args.place)
 
 pub make_code-code_of_parts-requires-clause-other : goal.make_code-code_of_parts-requires-clause-other
 make_code-code_of_parts-requires-clause-other t c =
@@ -127,7 +127,7 @@ pub make_code-code_of_parts-requires-clause-coded : goal.make_code-code_of_parts
 make_code-code_of_parts-requires-clause-coded t c =
     let ps = c.args.pieces.now in
     let id = c.args.build.now.part in
-    ap (λ (found : Option ℕ). is_some (code_found ps found)) (c.place_of-part.ensures ∙ ap (place_of id) c.pieces_before-before.ensures)
+    ap (λ (found : Option ℕ). is_some (code_found ps found)) (c.place_of-part.ensures ∙ ap (place_of_id id) c.pieces_before-before.ensures)
     ∙ found-coded id ps c.args.place c.requires.coded
 
 pub make_code-returns-clause-stay : goal.make_code-returns-clause-stay
@@ -139,7 +139,7 @@ make_code-returns-clause-code t c =
     let ps = c.args.pieces.now in
     let b = c.args.build.now in
     let before = c.pieces_before-before.ensures in
-    let one = ap (code_found ps) (c.place_of-part.ensures ∙ ap (place_of b.part) before) in
+    let one = ap (code_found ps) (c.place_of-part.ensures ∙ ap (place_of_id b.part) before) in
     let two = ap (code_found ps) (c.other_place-other.ensures ∙ ap (other_place b.other) before) in
     let said = found-code ps c.args.place b.entry b.step.now b.part b.other (code_found ps c.place_of-part.result) (code_found ps c.other_place-other.result) one two in
     subst (λ (o : Option CodeValue). IfOk c.code_of_parts.result (λ code. o ≡ Some code)) (sym said.0) c.code_of_parts.ensures.code
@@ -149,7 +149,7 @@ make_code-returns-clause-accepted t c =
     let ps = c.args.pieces.now in
     let b = c.args.build.now in
     let before = c.pieces_before-before.ensures in
-    let one = ap (code_found ps) (c.place_of-part.ensures ∙ ap (place_of b.part) before) in
+    let one = ap (code_found ps) (c.place_of-part.ensures ∙ ap (place_of_id b.part) before) in
     let two = ap (code_found ps) (c.other_place-other.ensures ∙ ap (other_place b.other) before) in
     let said = found-code ps c.args.place b.entry b.step.now b.part b.other (code_found ps c.place_of-part.result) (code_found ps c.other_place-other.result) one two in
     subst (λ (reason : Option SubmitFault). OnOk c.code_of_parts.result (reason ≡ None)) (sym said.1) c.code_of_parts.ensures.accepted
@@ -159,7 +159,7 @@ make_code-returns-clause-fault t c =
     let ps = c.args.pieces.now in
     let b = c.args.build.now in
     let before = c.pieces_before-before.ensures in
-    let one = ap (code_found ps) (c.place_of-part.ensures ∙ ap (place_of b.part) before) in
+    let one = ap (code_found ps) (c.place_of-part.ensures ∙ ap (place_of_id b.part) before) in
     let two = ap (code_found ps) (c.other_place-other.ensures ∙ ap (other_place b.other) before) in
     let said = found-code ps c.args.place b.entry b.step.now b.part b.other (code_found ps c.place_of-part.result) (code_found ps c.other_place-other.result) one two in
     subst (λ (reason : Option SubmitFault). IfErr c.code_of_parts.result (λ f. f ≢ fault.Memory → reason ≡ Some f)) (sym said.1) c.code_of_parts.ensures.fault
@@ -180,8 +180,8 @@ pub make_code-code_of_parts-requires-clause-fits : goal.make_code-code_of_parts-
 make_code-code_of_parts-requires-clause-fits t c = c.requires.fits
 
 -- the parts stand before the place
-part-below : (id : List ℕ) (ps : List PieceValue) (k : ℕ) → depth (place_of id (take k ps)) < 3 * k + 1
-part-below id ps k = at (place_of id (take k ps)) (λ i is. (found-before id ps k i is).0) where
+part-below : (id : List ℕ) (ps : List PieceValue) (k : ℕ) → depth (place_of_id id (take k ps)) < 3 * k + 1
+part-below id ps k = at (place_of_id id (take k ps)) (λ i is. (found-before id ps k i is).0) where
   at : (o : Option ℕ) → ((i : ℕ) → o ≡ Some i → i < k) → depth o < 3 * k + 1
   at None h = omega arith
   at (Some i) h = let below = h i refl in omega arith
@@ -194,7 +194,7 @@ pub make_code-keep_found-requires : goal.make_code-keep_found-requires
 make_code-keep_found-requires t c =
     let ps = c.args.pieces.now in
     let id = c.args.build.now.part in
-    let before = sym (c.place_of-part.ensures ∙ ap (place_of id) c.pieces_before-before.ensures) in
+    let before = sym (c.place_of-part.ensures ∙ ap (place_of_id id) c.pieces_before-before.ensures) in
     let within = subst (λ (found : Option ℕ). IfSome found (λ (i : ℕ). i < length ps)) before (part-within id ps c.args.place) in
     let below = subst (λ (found : Option ℕ). depth found < 3 * c.args.place + 1) before (part-below id ps c.args.place) in
     let at = c.decreases in

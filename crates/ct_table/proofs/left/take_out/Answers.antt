@@ -2,7 +2,7 @@ use Rattle.std.proofs.Common.{◌≡◌, ◌++◌, List, false, take, drop, All,
 use Rattle.std.proofs.lemmas.Result.{IfOk-from_err, on_ok_weaker}
 use Rattle.ct_rule_parts.specs.declared.support.Support.{Support}
 use Rattle.ct_rules.specs.Derivation.{LineValue}
-use Rattle.ct_rules.specs.Rule.{place_of}
+use Rattle.ct_rules.specs.Rule.{named_place}
 use Rattle.ct_rules.specs.Removal.{names_one, marked, voided}
 use Rattle.ct_slots.specs.Worklist.{WorkValue, IsIdle}
 use Rattle.ct_kept.specs.Kept.{KeptValue, BaseValue, UndoValue, set_back}
@@ -19,7 +19,7 @@ use Rattle.ct_table.proofs.left.take_out.Goals.{After-later, then-is_err, else-i
 pub returns-then-not-names-clause-taken : goal.returns-then-not-names-clause-taken
 returns-then-not-names-clause-taken c = λ full table is.
     IsTakenOut-unnamed (marked c.args.gone.now) full c.args.base.now c.args.closing.now table
-    (subst (λ (k : ClosingValue). All (λ (l : LineValue). names_one (marked c.args.gone.now) (place_of l.rule) ≡ false) (drop k.kept.base k.kept.lines))
+    (subst (λ (k : ClosingValue). All (λ (l : LineValue). names_one (marked c.args.gone.now) (named_place l.rule) ≡ false) (drop k.kept.base k.kept.lines))
     c.closing.view_is (c.names.ensures.0 c.if-not-names.true))
 
 pub returns-then-not-names-clause-lines : goal.returns-then-not-names-clause-lines

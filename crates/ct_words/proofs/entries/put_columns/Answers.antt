@@ -2,7 +2,7 @@ use Rattle.std.proofs.Common.{◌≡◌, ℕ, ◌+◌, ◌-◌, List, ◌++◌, 
 use Rattle.std.specs.List.{range_with_len}
 use Rattle.ct_words.specs.declared.limits.TheConstants.{MAX_N}
 use Rattle.ct_words.specs.declared.entry.Entry.{Entry}
-use Rattle.ct_words.specs.TableEntries.{column, columns_of}
+use Rattle.ct_words.specs.TableEntries.{column, columns_of_weight}
 use Rattle.ct_words.proofs.ColumnLemmas.{flat_map_range-more}
 use Rattle.ct_words.proofs.entries.put_columns.Goals as goal
 
@@ -17,7 +17,7 @@ loop-d-preserved c =
     ∙ append_assoc before (flat_map f (range_with_len 3 n)) (f c.loop-d.d) ∙ ap (λ (es : List Entry). before ++ es) (sym more)
 
 pub returns : goal.returns
-unfolding columns_of
+unfolding columns_of_weight
 returns c =
     let whole : c.loop-d.d - 3 ≡ MAX_N - 2 = omega arith in
     c.loop-d.invariant

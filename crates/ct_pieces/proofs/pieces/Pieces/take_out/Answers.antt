@@ -3,18 +3,18 @@ use Rattle.std.specs.Prelude.{remove}
 use Rattle.ct_words.specs.Code.{CodeValue}
 use Rattle.ct_piece.specs.Piece.{PieceValue, first_user, stored_words}
 use Rattle.ct_piece.specs.Withdrawal.{withdrawn}
-use Rattle.ct_piece.specs.Piece.{place_of}
+use Rattle.ct_piece.specs.Piece.{place_of_id}
 use Rattle.ct_piece.specs.Inside.Kept.{kept_codes, AreKept}
 use Rattle.ct_pieces.proofs.BuildPlaces.{kept-long}
 use Rattle.ct_piece.proofs.KeptLemmas.{kept-without}
-use Rattle.ct_piece.proofs.SupportLemmas.{place_of-some, withdrawn-left, left_standing}
+use Rattle.ct_piece.proofs.SupportLemmas.{place_of_id-some, withdrawn-left, left_standing}
 use Rattle.ct_pieces.proofs.pieces.Pieces.take_out.Goals as goal
 
 pub take_at-requires-clause-place : goal.take_at-requires-clause-place
 take_at-requires-clause-place c =
     let items = c.self.inside.pieces.items in
-    let is = subst (λ (ps : List PieceValue). place_of c.args.id ps ≡ Some c.args.place) (sym c.self.view_is) c.requires.place in
-    (place_of-some c.args.id items c.args.place c.self.invariant.0.different is).within
+    let is = subst (λ (ps : List PieceValue). place_of_id c.args.id ps ≡ Some c.args.place) (sym c.self.view_is) c.requires.place in
+    (place_of_id-some c.args.id items c.args.place c.self.invariant.0.different is).within
 
 pub take_at-requires-clause-long : goal.take_at-requires-clause-long
 take_at-requires-clause-long c = kept-long c.self.inside.kept.items c.self.inside.pieces.items c.self.invariant.2
@@ -26,7 +26,7 @@ pub invariant_of-self : goal.invariant_of-self
 invariant_of-self c =
     let items = c.self.inside.pieces.items in
     let place = c.args.place in
-    let is = subst (λ (ps : List PieceValue). place_of c.args.id ps ≡ Some place) (sym c.self.view_is) c.requires.place in
+    let is = subst (λ (ps : List PieceValue). place_of_id c.args.id ps ≡ Some place) (sym c.self.view_is) c.requires.place in
     let free = subst (λ (ps : List PieceValue). option_map (λ (p : PieceValue). p.id) (first_user c.args.id ps) ≡ None) (sym c.self.view_is) c.requires.free in
     let left = left_standing c.args.id items place c.self.invariant.0 is free in
     let codes = c.self.inside.kept.items in
@@ -41,7 +41,7 @@ pub returns-clause-left : goal.returns-clause-left
 returns-clause-left c =
     let items = c.self.inside.pieces.items in
     let place = c.args.place in
-    let is = subst (λ (ps : List PieceValue). place_of c.args.id ps ≡ Some place) (sym c.self.view_is) c.requires.place in
+    let is = subst (λ (ps : List PieceValue). place_of_id c.args.id ps ≡ Some place) (sym c.self.view_is) c.requires.place in
     let free = subst (λ (ps : List PieceValue). option_map (λ (p : PieceValue). p.id) (first_user c.args.id ps) ≡ None) (sym c.self.view_is) c.requires.free in
     subst (λ (ps : List PieceValue). withdrawn ps c.args.id ≡ Ok c.take_at.new.pieces.items) c.self.view_is
     (withdrawn-left c.args.id items place c.self.invariant.0.different is free ∙ ap Ok (sym c.take_at.ensures.pieces))

@@ -3,7 +3,7 @@ use Rattle.std.proofs.lemmas.List.{length-map}
 use Rattle.ct_words.specs.Code.{CodeValue}
 use Rattle.ct_piece.specs.Piece.{PieceValue, stored_words}
 use Rattle.ct_piece.specs.Standing.{AreStanding}
-use Rattle.ct_piece.specs.Withdrawal.{taken_along, is_among, without_all, marks_along}
+use Rattle.ct_piece.specs.Withdrawal.{taken_along, is_id_among, without_all, marks_along}
 use Rattle.ct_piece.specs.Inside.Kept.{kept_codes, AreKept}
 use Rattle.ct_piece.specs.Inside.Unmarked.{unmarked}
 use Rattle.ct_piece.specs.declared.limits.TheConstants.{MAX_STORED}
@@ -20,13 +20,13 @@ left_items items now left id gone same marks is =
 pub leave_out-requires : goal.leave_out-requires
 leave_out-requires c =
     let one = ap (λ (g : List Bool). length g) c.requires.marks in
-    let two = length-map c.args.self.now (λ (p : PieceValue). is_among (taken_along c.args.self.now c.args.id) p.id) in
+    let two = length-map c.args.self.now (λ (p : PieceValue). is_id_among (taken_along c.args.self.now c.args.id) p.id) in
     one ∙ two ∙ ap (λ (ps : List PieceValue). length ps) (sym c.self.view_is)
 
 pub leave_out-requires-2 : goal.leave_out-requires-2
 leave_out-requires-2 c =
     let one = ap (λ (g : List Bool). length g) c.requires.marks in
-    let two = length-map c.args.self.now (λ (p : PieceValue). is_among (taken_along c.args.self.now c.args.id) p.id) in
+    let two = length-map c.args.self.now (λ (p : PieceValue). is_id_among (taken_along c.args.self.now c.args.id) p.id) in
     one ∙ two ∙ ap (λ (ps : List PieceValue). length ps) (sym c.self.view_is) ∙ sym (length-kept_codes c.self.inside.pieces.items)
     ∙ sym (kept-length c.self.inside.kept.items (kept_codes c.self.inside.pieces.items) c.self.invariant.2)
 
