@@ -1,5 +1,5 @@
 -- A support gives the bound of its dual at the dual's entry.
-use Rattle.std.proofs.Common.{◌≡◌, ℕ, ◌≤◌, Bool, true, false, cond, List, [], map, All, Option, Some, None, is_some, refl, sym, ap, ◌∙◌, subst, arith}
+use Rattle.std.proofs.Common.{◌≡◌, ℕ, ◌≤◌, Bool, true, false, cond, List, [], map, All, Option, Some, None, is_some, refl, sym, ap, ◌∙◌, subst, arith, option_map}
 use Rattle.std.specs.Prelude.{slice_get, min}
 use Rattle.ct_words.specs.declared.limits.TheConstants.{MAX_BOUND}
 use Rattle.ct_words.specs.declared.claim.Claim.{Claim}
@@ -13,7 +13,7 @@ use Rattle.ct_rule_parts.specs.Parts.{are_entries, is_defined, has_weight, slots
 use Rattle.ct_rule_parts.specs.Slot.{Slot, slot_of, claim_at}
 use Rattle.ct_rule_parts.specs.Support.{Stands, dual_at}
 use Rattle.ct_rule_parts.proofs.DualLemmas.{dual_at-own, are_entries-from_All}
-use Rattle.ct_weight_rules.specs.Delsarte.{premises_of_dual, bound_from_dual, dual_above, dual_above_of_weight}
+use Rattle.ct_weight_rules.specs.Delsarte.{premises_of_dual, dual_above, dual_above_of_weight}
 use Rattle.ct_weight_rules.proofs.LawfulDelsarte.{premises-none}
 use Rattle.ct_rules.specs.declared.rule.Rule.{Rule}
 use Rattle.ct_rules.specs.declared.rule.Rule.TheVariants.{U11, V9}
@@ -57,8 +57,8 @@ plain-gives supports place a h at light =
           ap (λ (b : Bool). cond b (Some (slots_on Upper (premises_of_dual (dual_at c e)))) None) defined
           ∙ ap (λ (o : Option AcceptedValue). Some (slots_on Upper (premises_of_dual o))) given;
       value = λ us.
-          ap (λ (b : Bool). cond b (within_limit Upper (bound_from_dual (dual_at c e) us)) None) defined
-          ∙ ap (λ (o : Option AcceptedValue). within_limit Upper (bound_from_dual o us)) given ∙ bound-limit a us;
+          ap (λ (b : Bool). cond b (within_limit Upper (option_map (λ (a : AcceptedValue). dual_bound a.dual a.at_zero us) (dual_at c e))) None) defined
+          ∙ ap (λ (o : Option AcceptedValue). within_limit Upper (option_map (λ (a : AcceptedValue). dual_bound a.dual a.at_zero us) o)) given ∙ bound-limit a us;
     }
 
 -- the rule of a dual with weight, which rests on nothing
@@ -79,8 +79,8 @@ weighted-gives supports place a w h at weighted =
           ap (λ (b : Bool). cond b (Some []) None) defined
           ∙ ap (λ (es : List Entry). Some (slots_on Upper es)) (sym none);
       value = λ us.
-          ap (λ (b : Bool). cond b (within_limit Upper (bound_from_dual (dual_at c e) us)) None) defined
-          ∙ ap (λ (o : Option AcceptedValue). within_limit Upper (bound_from_dual o us)) given ∙ bound-limit a us;
+          ap (λ (b : Bool). cond b (within_limit Upper (option_map (λ (a : AcceptedValue). dual_bound a.dual a.at_zero us) (dual_at c e))) None) defined
+          ∙ ap (λ (o : Option AcceptedValue). within_limit Upper (option_map (λ (a : AcceptedValue). dual_bound a.dual a.at_zero us) o)) given ∙ bound-limit a us;
     }
 
 -- the rule that names a dual that stands

@@ -1,5 +1,5 @@
 -- The local bound of evidence of kind jlocal: what V10 gives by it, that this is sound, and that the table's bound reaches it.
-use Rattle.std.proofs.Common.{◌≡◌, ℕ, ◌≤◌, Bool, true, cond, List, map, All, Option, Some, None, is_some, sym, ap, subst, ◌∙◌, refl, arith}
+use Rattle.std.proofs.Common.{◌≡◌, ℕ, ◌≤◌, Bool, true, cond, List, map, All, Option, Some, None, is_some, sym, ap, subst, ◌∙◌, refl, arith, option_map}
 use Rattle.std.specs.Prelude.{IsSome, min, slice_get}
 use Rattle.std.proofs.lemmas.Option.{same_Some}
 use Rattle.ct_words.specs.declared.limits.TheConstants.{MAX_BOUND}
@@ -24,7 +24,7 @@ use Rattle.ct_rule_parts.specs.Support.{local_at}
 use Rattle.ct_rule_parts.proofs.DualLemmas.{are_entries-from_All}
 use Rattle.ct_rule_parts.proofs.PlainEntries.{a_weight}
 use Rattle.ct_weight_rules.specs.Delsarte.{premises_of_dual}
-use Rattle.ct_weight_rules.specs.LocalDuals.{local_bound_of, local_above}
+use Rattle.ct_weight_rules.specs.LocalDuals.{local_above}
 use Rattle.ct_weight_rules.proofs.LawfulLocalDuals.{checked_local-true}
 use Rattle.ct_rules.specs.declared.rule.Rule.TheVariants.{V10}
 use Rattle.ct_rules.specs.Derivation.{IsDerived, IsBest}
@@ -78,8 +78,8 @@ local-gives supports place a h some at =
           ap (λ (b : Bool). cond b (Some (slots_on Upper (premises_of_dual (local_at c e)))) None) defined
           ∙ ap (λ (o : Option AcceptedValue). Some (slots_on Upper (premises_of_dual o))) given;
       value = λ us.
-          ap (λ (b : Bool). cond b (within_limit Upper (local_bound_of (local_at c e) us)) None) defined
-          ∙ ap (λ (o : Option AcceptedValue). within_limit Upper (local_bound_of o us)) given ∙ bound-limit a us;
+          ap (λ (b : Bool). cond b (within_limit Upper (option_map (λ (a : AcceptedValue). local_value a us) (local_at c e))) None) defined
+          ∙ ap (λ (o : Option AcceptedValue). within_limit Upper (option_map (λ (a : AcceptedValue). local_value a us) o)) given ∙ bound-limit a us;
     }
 
 -- what accepted evidence of kind jlocal gives

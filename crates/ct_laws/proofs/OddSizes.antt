@@ -26,7 +26,7 @@ use Rattle.ct_rule_parts.specs.Slot.{Slot, slot_of}
 use Rattle.ct_rule_parts.specs.Support.{OddValue, odd_at}
 use Rattle.ct_rule_parts.proofs.DualLemmas.{are_entries-from_All}
 use Rattle.ct_weight_rules.specs.Delsarte.{premises_of_dual}
-use Rattle.ct_weight_rules.specs.OddSizes.{is_odd_size, is_above_spread, is_excluded, size_below, odd_size_above}
+use Rattle.ct_weight_rules.specs.OddSizes.{is_odd_size, is_above_spread, size_below, odd_size_above}
 use Rattle.ct_weight_rules.proofs.LawfulOddSizes.{checked-true}
 use Rattle.ct_rules.specs.declared.rule.Rule.TheVariants.{U12}
 use Rattle.ct_rules.specs.Derivation.{IsDerived, IsBest}
@@ -54,7 +54,7 @@ given-odd c a m is =
 
 -- a number that is excluded is within the limit of a bound
 size-limit : (o : OddValue) (us : List ℕ) → o.m ≤ MAX_ODD → within_limit Upper (size_below (Some o) us) ≡ size_below (Some o) us
-size-limit o us few = at (is_excluded o us)
+size-limit o us few = at (is_odd_size o.m && is_above_spread o.accepted o.m us)
   where
     at : (b : Bool) → within_limit Upper (cond b (Some (o.m - 1)) None) ≡ cond b (Some (o.m - 1)) None
     at false = refl

@@ -3,9 +3,9 @@
 ghost use Rattle.std.specs.Prelude.{◌≡◌, true, if◌then◌else◌, Some, None, option_map, slice_get};
 ghost use Rattle.ct_words.specs.Entry.{IsEntry, unrestricted, constant_weight};
 ghost use Rattle.ct_rule_parts.specs.Entries.{listed};
-ghost use Rattle.ct_rule_parts.specs.Support.{dual_at, odd_at, local_at};
-ghost use Rattle.ct_weight_rules.specs.Delsarte.{bound_from_dual, dual_above};
-ghost use Rattle.ct_weight_rules.specs.LocalDuals.{local_bound_of, local_above};
+ghost use Rattle.ct_rule_parts.specs.Support.{odd_at};
+ghost use Rattle.ct_weight_rules.specs.Delsarte.{dual_above};
+ghost use Rattle.ct_weight_rules.specs.LocalDuals.{local_above};
 ghost use Rattle.ct_weight_rules.specs.OddSizes.{size_below, odd_size_above};
 ghost use Rattle.ct_rules.specs.Inside.RestedOn.{rested_on_by};
 ghost use Rattle.ct_rules.specs.Rule.{rule_side, named_place, with_place, is_alone, parts_over, row_of};
@@ -77,7 +77,7 @@ fn premises_of_dual(supports: &[Support], place: u32, entry: Entry) -> Option<En
 
 /// The bound of the dual that the support at the place gives at the entry, from these values.
 fn bound_of_dual(supports: &[Support], place: u32, entry: Entry, values: &[u32]) -> Option<u64>
-    ensures { result ≡ bound_from_dual (dual_at (slice_get supports.now place) entry) values.now }
+    ensures { result ≡ (dual_above (slice_get supports.now place)).number entry values.now }
 {
     let dual = dual_at(supports, place as usize, entry)?;
     Some(u64::from(dual.bound(values)))
@@ -119,7 +119,7 @@ fn premises_of_local(supports: &[Support], place: u32, entry: Entry) -> Option<E
 
 /// The local bound of the dual that the support at the place gives at the entry, from these values.
 fn bound_of_local(supports: &[Support], place: u32, entry: Entry, values: &[u32]) -> Option<u64>
-    ensures { result ≡ local_bound_of (local_at (slice_get supports.now place) entry) values.now }
+    ensures { result ≡ (local_above (slice_get supports.now place)).number entry values.now }
 {
     let local = local_at(supports, place as usize, entry)?;
     Some(u64::from(local.bound(values)))

@@ -1,5 +1,5 @@
 -- Delsarte's bound: U11 and V9.
-use Rattle.std.proofs.Common.{◌≡◌, ℕ, ◌-◌, ◌%◌, ◌≤◌, List, [], ◌∷◌, length, map, get_or, Contains, refl, ap, sym, subst, ◌∙◌, arith, inl, inr}
+use Rattle.std.proofs.Common.{◌≡◌, ℕ, ◌-◌, ◌%◌, ◌≤◌, List, [], ◌∷◌, length, map, get_or, Contains, refl, ap, sym, subst, ◌∙◌, arith, inl, inr, option_map}
 use Rattle.std.specs.Prelude.{ℤ, not, is_some, Option, Some, None}
 use Rattle.std.specs.Option.{ForSome}
 use Rattle.std.proofs.lemmas.Bool.{and_parts, cases_lt}
@@ -26,7 +26,7 @@ use Rattle.ct_rule_parts.proofs.Lawful.{IsLawful, LeadsBack, IsTrueNumber, AreTr
 use Rattle.ct_rule_parts.proofs.PlainEntries.{Weightless, no_weight, a_weight, written, in_front, behind, no_item}
 use Rattle.ct_weight_rules.specs.Inside.RestedOn.{by_even_distance}
 use Rattle.ct_weight_rules.specs.Neighbours.{unweighted, unweighted_and_nearer}
-use Rattle.ct_weight_rules.specs.Delsarte.{premises_of_dual, bound_from_dual, dual_above, dual_above_of_weight}
+use Rattle.ct_weight_rules.specs.Delsarte.{premises_of_dual, dual_above, dual_above_of_weight}
 
 -- true values of upper slots are true upper bounds
 pub true_uppers : (es : List Entry) (vs : List ℕ) → AreTrueAt (slots_on Upper es) vs → AreTrueUppers es vs
@@ -54,8 +54,8 @@ dual_number c e a vs stand at known =
     }
 
 -- better premises give no greater a bound
-dual-monotone : (o : Option AcceptedValue) (us vs : List ℕ) (x : ℕ) → AreNoBetter Upper us vs → bound_from_dual o us ≡ Some x
-    → NoWorse Upper (bound_from_dual o vs) x
+dual-monotone : (o : Option AcceptedValue) (us vs : List ℕ) (x : ℕ) → AreNoBetter Upper us vs → option_map (λ (a : AcceptedValue). dual_bound a.dual a.at_zero us) o ≡ Some x
+    → NoWorse Upper (option_map (λ (a : AcceptedValue). dual_bound a.dual a.at_zero vs) o) x
 dual-monotone None us vs x h is = absurd (none-some x is)
 dual-monotone (Some a) us vs x h is =
     no_worse-other Upper (dual_bound a.dual a.at_zero us) (dual_bound a.dual a.at_zero vs) x
@@ -93,7 +93,7 @@ dual_above-lawful c = record {
 }
   where
     sound : (e : Entry) (vs : List ℕ) (x : ℕ) → ForSome c Stands → (o : Option AcceptedValue) → dual_at c e ≡ o
-        → AreTrueAt (slots_on Upper (premises_of_dual o)) vs → bound_from_dual o vs ≡ Some x → IsTrueNumber Upper e x
+        → AreTrueAt (slots_on Upper (premises_of_dual o)) vs → option_map (λ (a : AcceptedValue). dual_bound a.dual a.at_zero vs) o ≡ Some x → IsTrueNumber Upper e x
     sound e vs x stand None at known is = absurd (none-some x is)
     sound e vs x stand (Some a) at known is =
         same_number Upper e (dual_bound a.dual a.at_zero vs) x is
@@ -130,7 +130,7 @@ dual_above_of_weight-lawful c = record {
 }
   where
     sound : (e : Entry) (vs : List ℕ) (x : ℕ) → ForSome c Stands → (w : ℕ) × (e.w ≡ Some w) → (o : Option AcceptedValue) → dual_at c e ≡ o
-        → AreTrueAt [] vs → bound_from_dual o vs ≡ Some x → IsTrueNumber Upper e x
+        → AreTrueAt [] vs → option_map (λ (a : AcceptedValue). dual_bound a.dual a.at_zero vs) o ≡ Some x → IsTrueNumber Upper e x
     sound e vs x stand weight None at known is = absurd (none-some x is)
     sound e (v ∷ vs) x stand weight (Some a) at known is = absurd known
     sound e [] x stand weight (Some a) at known is =

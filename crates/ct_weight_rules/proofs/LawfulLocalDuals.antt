@@ -1,5 +1,5 @@
 -- The local bound of a dual: V10.
-use Rattle.std.proofs.Common.{◌≡◌, ℕ, ◌+◌, ◌-◌, ◌*◌, ◌≤◌, List, [], ◌∷◌, length, map, get_or, Contains, min, refl, ap, sym, subst, ◌∙◌, arith}
+use Rattle.std.proofs.Common.{◌≡◌, ℕ, ◌+◌, ◌-◌, ◌*◌, ◌≤◌, List, [], ◌∷◌, length, map, get_or, Contains, min, refl, ap, sym, subst, ◌∙◌, arith, option_map}
 use Rattle.std.specs.Prelude.{ℤ, is_some, Option, Some, None}
 use Rattle.std.specs.Option.{ForSome, unwrap_or}
 use Rattle.std.specs.List.{All, range_with_len}
@@ -41,7 +41,7 @@ use Rattle.ct_rule_parts.proofs.PlainEntries.{Weighted, a_weight, no_item}
 use Rattle.ct_weight_rules.specs.Inside.RestedOn.{all_weights}
 use Rattle.ct_weight_rules.specs.Neighbours.{of_weight}
 use Rattle.ct_weight_rules.specs.Delsarte.{premises_of_dual}
-use Rattle.ct_weight_rules.specs.LocalDuals.{local_bound_of, local_above}
+use Rattle.ct_weight_rules.specs.LocalDuals.{local_above}
 use Rattle.ct_weight_rules.proofs.LawfulDelsarte.{true_uppers, at_most}
 
 -- a doubly constant code with as many ones in both parts is a code of twice that weight
@@ -105,8 +105,8 @@ checked_local-true d w us is form accepted known =
     local_value-true (record { dual = d; at_zero = combination (numbers_of d.entry) d.c 0 }) w us (accepted-from_none d form accepted) is known
 
 -- better premises give no greater a bound
-local-monotone : (o : Option AcceptedValue) (us vs : List ℕ) (x : ℕ) → AreNoBetter Upper us vs → local_bound_of o us ≡ Some x
-    → NoWorse Upper (local_bound_of o vs) x
+local-monotone : (o : Option AcceptedValue) (us vs : List ℕ) (x : ℕ) → AreNoBetter Upper us vs → option_map (λ (a : AcceptedValue). local_value a us) o ≡ Some x
+    → NoWorse Upper (option_map (λ (a : AcceptedValue). local_value a vs) o) x
 local-monotone None us vs x h is = absurd (none-some x is)
 local-monotone (Some a) us vs x h is =
     no_worse-other Upper (local_value a us) (local_value a vs) x
@@ -145,7 +145,7 @@ local_above-lawful c = record {
 }
   where
     sound : (e : Entry) (vs : List ℕ) (x : ℕ) → ForSome c Stands → Weighted e → (o : Option AcceptedValue) → local_at c e ≡ o
-        → AreTrueAt (slots_on Upper (premises_of_dual o)) vs → local_bound_of o vs ≡ Some x → IsTrueNumber Upper e x
+        → AreTrueAt (slots_on Upper (premises_of_dual o)) vs → option_map (λ (a : AcceptedValue). local_value a vs) o ≡ Some x → IsTrueNumber Upper e x
     sound e vs x stand weight None at known is = absurd (none-some x is)
     sound e vs x stand weight (Some a) at known is =
         let has = local_there c e a at in

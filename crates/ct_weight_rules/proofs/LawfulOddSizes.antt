@@ -36,7 +36,7 @@ use Rattle.ct_rule_parts.proofs.Lawful.{IsLawful, LeadsBack, IsTrueNumber, AreTr
 use Rattle.ct_rule_parts.proofs.PlainEntries.{Weightless, no_weight, no_item}
 use Rattle.ct_weight_rules.specs.Inside.RestedOn.{by_even_distance}
 use Rattle.ct_weight_rules.specs.Delsarte.{premises_of_dual}
-use Rattle.ct_weight_rules.specs.OddSizes.{is_odd_size, is_above_spread, is_excluded, size_below, odd_size_above}
+use Rattle.ct_weight_rules.specs.OddSizes.{is_odd_size, is_above_spread, size_below, odd_size_above}
 use Rattle.ct_weight_rules.proofs.LawfulDelsarte.{true_uppers, at_most, dual-back}
 
 -- a code of just so many words, an odd number, adds up to no more than m times the spread, and to no less than any so many words
@@ -79,6 +79,10 @@ pub checked-true : (d : Dual) (m : ℕ) (us : List ℕ) → d.entry.w ≡ None �
     → (pos m *ℤ dual_spread d (combination (numbers_of d.entry) d.c 0) us) <ℤ odd_sum d.entry.n m d.c → IsTrueUpper d.entry (m - 1)
 checked-true d m us none form accepted known odd above =
     excluded-true (record { dual = d; at_zero = combination (numbers_of d.entry) d.c 0 }) m us (accepted-from_none d form accepted) none known odd above
+
+-- whether parity excludes codes of so many words
+abbrev is_excluded : OddValue → List ℕ → Bool
+is_excluded o us = is_odd_size o.m && is_above_spread o.accepted o.m us
 
 -- what is excluded is odd and from 3, and L is above m·E
 record Excluded (o : OddValue) (us : List ℕ) : Type 0 where

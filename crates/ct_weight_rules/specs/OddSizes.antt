@@ -17,14 +17,10 @@ is_odd_size m = nat_le 3 m && nat_le m MAX_ODD && m % 2 == 1
 abbrev pub is_above_spread : AcceptedValue → ℕ → List ℕ → Bool
 is_above_spread a m vs = int_lt (pos m *ℤ dual_spread a.dual a.at_zero vs) (odd_sum a.dual.entry.n m a.dual.c)
 
--- whether parity excludes codes of so many words
-abbrev pub is_excluded : OddValue → List ℕ → Bool
-is_excluded o vs = is_odd_size o.m && is_above_spread o.accepted o.m vs
-
--- one word less than is excluded: a code of more words has one of just so many in it
+-- one word less than the number of words that parity excludes: a code of more words has one of just so many in it
 abbrev pub size_below : Option OddValue → List ℕ → Option ℕ
 size_below None vs = None
-size_below (Some o) vs = if is_excluded o vs then Some (o.m - 1) else None
+size_below (Some o) vs = if is_odd_size o.m && is_above_spread o.accepted o.m vs then Some (o.m - 1) else None
 
 -- U12 of a support: A(n,d) is at most m − 1, for the m of the support, where L > m·E by its dual and the bounds of A(n,2⌈d/2⌉,i) for each i where the dual allows more than 0
 abbrev pub odd_size_above : Option Support → RuleParts
