@@ -6,10 +6,11 @@ use Rattle.std.proofs.lemmas.List.Elements.{All-nil, All-cons, All-head, All-tai
 use Rattle.ct_words.specs.declared.entry.Entry.{Entry}
 use Rattle.ct_words.specs.Pairs.{first_of}
 use Rattle.ct_words.proofs.CheckLemmas.{first_of-None}
+use Rattle.ct_build.specs.Build.{add_up}
 use Rattle.ct_classes.specs.Partition.{PartitionValue}
 use Rattle.ct_kind.specs.Named.{NamedCode, partition_named}
 use Rattle.ct_laws.proofs.Says.{Says}
-use Rattle.ct_partition_files.specs.ProductKind.{Ids, factor_named, first_length, is_wrong_first, weights_add_up, is_wrong_second, wrong_of_pair, wrong_of_pairs, wrong_id}
+use Rattle.ct_partition_files.specs.ProductKind.{Ids, factor_named, first_length, is_wrong_first, is_wrong_second, wrong_of_pair, wrong_of_pairs, wrong_id}
 use Rattle.ct_laws.specs.ProductRefusal.{IsRightFirst, IsRightSecond, IsRightPair, IsWrongOf, IsFirstWrongAt, IsFirstWrong, AreRightPairs}
 use Rattle.ct_partition_files.proofs.ProductKind.{not-false, none-parts, added, added-from}
 
@@ -38,13 +39,13 @@ first-not_wrong w long (Some x) h =
 second-right : (e : Entry) (x : PartitionValue) (o : Option PartitionValue) → is_wrong_second e x o ≡ false → IsRightSecond e x o
 second-right e x None h = absurd cc
 second-right e x (Some y) h =
-    let parts = or_parts (not (x.entry.n + y.entry.n == e.n)) (not (weights_add_up e.w x.entry.w y.entry.w)) h in
-    (eqb-true (x.entry.n + y.entry.n) e.n (not-false (x.entry.n + y.entry.n == e.n) parts.0), added e.w x.entry.w y.entry.w (not-false (weights_add_up e.w x.entry.w y.entry.w) parts.1))
+    let parts = or_parts (not (x.entry.n + y.entry.n == e.n)) (not (add_up e.w x.entry.w y.entry.w)) h in
+    (eqb-true (x.entry.n + y.entry.n) e.n (not-false (x.entry.n + y.entry.n == e.n) parts.0), added e.w x.entry.w y.entry.w (not-false (add_up e.w x.entry.w y.entry.w) parts.1))
 
 second-not_wrong : (e : Entry) (x : PartitionValue) (o : Option PartitionValue) → IsRightSecond e x o → is_wrong_second e x o ≡ false
 second-not_wrong e x None h = absurd h
 second-not_wrong e x (Some y) h =
-    or_from (not (x.entry.n + y.entry.n == e.n)) (not (weights_add_up e.w x.entry.w y.entry.w)) (ap not (eq-eqb (x.entry.n + y.entry.n) e.n h.0))
+    or_from (not (x.entry.n + y.entry.n == e.n)) (not (add_up e.w x.entry.w y.entry.w)) (ap not (eq-eqb (x.entry.n + y.entry.n) e.n h.0))
     (ap not (added-from e.w x.entry.w y.entry.w h.1))
 
 -- what two options hold, where they are the same

@@ -16,6 +16,7 @@ use Rattle.ct_words.specs.Pairs.{first_of}
 use Rattle.ct_words.proofs.CheckLemmas.{first_of-None}
 use Rattle.ct_words.proofs.EntryLemmas.{entry_limits}
 use Rattle.ct_words.specs.Constructions.Juxtaposed.{added_weights}
+use Rattle.ct_build.specs.Build.{add_up}
 use Rattle.ct_build.specs.declared.fault.BuildFault.TheVariants as build
 use Rattle.ct_classes.specs.Partition.{PartitionValue, IsSoundPartition}
 use Rattle.ct_partitions.specs.Product.{Factors, product, product_size, product_distance, AreFactors, AreSound as AreSoundFactors, no_partition, pairs_at, ArePairsOfPlaces}
@@ -24,7 +25,7 @@ use Rattle.ct_partitions.proofs.ProductLemmas.{some_of_product}
 use Rattle.ct_rule_parts.specs.Support.{Stands}
 use Rattle.ct_kind.specs.Named.{NamedCode, is_known, first_missing, partition_named}
 use Rattle.ct_kind.specs.KindParts.{support_from}
-use Rattle.ct_partition_files.specs.ProductKind.{Ids, ids_of, factor_named, factors_named, first_length, is_wrong_first, weights_add_up, is_wrong_second, wrong_of_pair, wrong_of_pairs, wrong_id, short_of, product_reason, product_kind, IsProductChecked}
+use Rattle.ct_partition_files.specs.ProductKind.{Ids, ids_of, factor_named, factors_named, first_length, is_wrong_first, is_wrong_second, wrong_of_pair, wrong_of_pairs, wrong_id, short_of, product_reason, product_kind, IsProductChecked}
 use Rattle.ct_kind.specs.declared.fault.SubmitFault.TheVariants as fault
 use Rattle.ct_kind.specs.Sound.{AreSound}
 use Rattle.ct_kind.proofs.Stating.{option_map-none, StatesWell, SaysSame, IsAlike}
@@ -49,13 +50,13 @@ none-parts false true i j h = absurd cc
 none-parts false false i j h = (refl, refl)
 
 -- weights that add up
-pub added : (w v u : Option ℕ) → weights_add_up w v u ≡ true → IfSome w (λ k. added_weights v u ≡ Some k)
+pub added : (w v u : Option ℕ) → add_up w v u ≡ true → IfSome w (λ k. added_weights v u ≡ Some k)
 added None v u h = tt
 added (Some w) None u h = absurd cc
 added (Some w) (Some v) None h = absurd cc
 added (Some w) (Some v) (Some u) h = ap Some (eqb-true (v + u) w h)
 
-pub added-from : (w v u : Option ℕ) → IfSome w (λ k. added_weights v u ≡ Some k) → weights_add_up w v u ≡ true
+pub added-from : (w v u : Option ℕ) → IfSome w (λ k. added_weights v u ≡ Some k) → add_up w v u ≡ true
 added-from None v u h = refl
 added-from (Some w) None u h = absurd cc
 added-from (Some w) (Some v) None h = absurd cc
@@ -74,13 +75,13 @@ paired e long i j (Some x) None h = let parts = none-parts (is_wrong_first e.w l
 paired e long i j (Some x) (Some y) h =
     let parts = none-parts (is_wrong_first e.w long (Some x)) (is_wrong_second e x (Some y)) i j h in
     let first = or_parts (not (x.entry.n == long)) (is_some e.w && not (is_some x.entry.w)) parts.0 in
-    let second = or_parts (not (x.entry.n + y.entry.n == e.n)) (not (weights_add_up e.w x.entry.w y.entry.w)) parts.1 in
+    let second = or_parts (not (x.entry.n + y.entry.n == e.n)) (not (add_up e.w x.entry.w y.entry.w)) parts.1 in
     record {
       first = refl;
       second = refl;
       one_length = eqb-true x.entry.n long (not-false (x.entry.n == long) first.0);
       whole = eqb-true (x.entry.n + y.entry.n) e.n (not-false (x.entry.n + y.entry.n == e.n) second.0);
-      weights = added e.w x.entry.w y.entry.w (not-false (weights_add_up e.w x.entry.w y.entry.w) second.1);
+      weights = added e.w x.entry.w y.entry.w (not-false (add_up e.w x.entry.w y.entry.w) second.1);
     }
 
 paired-from : (e : Entry) (long : ℕ) (i j : List ℕ) (a b : Option PartitionValue) → ArePaired e long a b
@@ -90,7 +91,7 @@ paired-from e long i j (Some x) None h = let some = h.second in absurd cc
 paired-from e long i j (Some x) (Some y) h =
     let first = or_from (not (x.entry.n == long)) (is_some e.w && not (is_some x.entry.w)) (ap not (eq-eqb x.entry.n long h.one_length))
     (weighted-from e.w x.entry.w y.entry.w h.weights) in
-    let second = or_from (not (x.entry.n + y.entry.n == e.n)) (not (weights_add_up e.w x.entry.w y.entry.w)) (ap not (eq-eqb (x.entry.n + y.entry.n) e.n h.whole))
+    let second = or_from (not (x.entry.n + y.entry.n == e.n)) (not (add_up e.w x.entry.w y.entry.w)) (ap not (eq-eqb (x.entry.n + y.entry.n) e.n h.whole))
     (ap not (added-from e.w x.entry.w y.entry.w h.weights)) in
     ap₂ (λ (f s : Bool). cond f (Some i) (cond s (Some j) None)) first second
 

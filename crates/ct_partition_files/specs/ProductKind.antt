@@ -5,6 +5,7 @@ use Rattle.std.specs.List.{flat_map}
 use Rattle.std.specs.Option.{unwrap_or}
 use Rattle.ct_words.specs.declared.entry.Entry.{Entry}
 use Rattle.ct_words.specs.Pairs.{first_of}
+use Rattle.ct_build.specs.Build.{add_up}
 use Rattle.ct_build.specs.declared.fault.BuildFault.TheVariants as build
 use Rattle.ct_classes.specs.Partition.{PartitionValue}
 use Rattle.ct_partitions.specs.Product.{Factors, product, product_size, product_distance, AreFactors, no_partition}
@@ -39,18 +40,11 @@ abbrev pub is_wrong_first : Option ℕ → ℕ → Option PartitionValue → Boo
 is_wrong_first w long None = true
 is_wrong_first w long (Some x) = not (x.entry.n == long) || (is_some w && not (is_some x.entry.w))
 
--- whether two weights add up to the stated one; where none is stated, nothing is asked of them
-abbrev pub weights_add_up : Option ℕ → Option ℕ → Option ℕ → Bool
-weights_add_up None v u = true
-weights_add_up (Some w) None u = false
-weights_add_up (Some w) (Some v) None = false
-weights_add_up (Some w) (Some v) (Some u) = v + u == w
-
 -- whether a second id is wrong beside the first partition: its piece is no partition, both lengths don't add up to that of the entry, or, where
 -- a weight is stated, it has none or both don't add up to it
 abbrev pub is_wrong_second : Entry → PartitionValue → Option PartitionValue → Bool
 is_wrong_second e x None = true
-is_wrong_second e x (Some y) = not (x.entry.n + y.entry.n == e.n) || not (weights_add_up e.w x.entry.w y.entry.w)
+is_wrong_second e x (Some y) = not (x.entry.n + y.entry.n == e.n) || not (add_up e.w x.entry.w y.entry.w)
 
 -- the first id of a pair that is wrong
 abbrev pub wrong_of_pair : Entry → ℕ → List NamedCode → Ids → Option (List ℕ)

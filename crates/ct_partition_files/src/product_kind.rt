@@ -11,10 +11,11 @@ ghost use Rattle.ct_words.specs.Entry.{IsEntry};
 ghost use Rattle.ct_words.specs.Pairs.{first_of};
 ghost use Rattle.ct_classes.specs.Partition.{PartitionValue};
 ghost use Rattle.ct_partitions.specs.Product.{product, product_distance, product_size, pairs_at, ArePairsOfPlaces, AreFactors};
+ghost use Rattle.ct_build.specs.Build.{add_up};
 ghost use Rattle.ct_kind.specs.Ascending.{code_at};
 ghost use Rattle.ct_kind.specs.KindParts.{kind_reason};
 ghost use Rattle.ct_kind.specs.Named.{first_missing, partition_named};
-ghost use Rattle.ct_partition_files.specs.ProductKind.{ids_of, factors_named, first_length, is_wrong_first, weights_add_up, is_wrong_second, wrong_of_pair, wrong_id, short_of, product_reason, product_kind};
+ghost use Rattle.ct_partition_files.specs.ProductKind.{ids_of, factors_named, first_length, is_wrong_first, is_wrong_second, wrong_of_pair, wrong_id, short_of, product_reason, product_kind};
 
 use ct_build::BuildFault;
 use ct_kind::{Kind, Partitions, SubmitFault};
@@ -87,7 +88,7 @@ fn first_missing<P: Partitions>(pieces: &P, pairs: &[(Id, Id)]) -> Option<Id>
 
 /// Whether two weights add up to the stated one; where none is stated, nothing is asked of them.
 fn add_up(w: Option<u32>, v: Option<u32>, u: Option<u32>) -> bool
-    ensures { result ≡ weights_add_up w v u }
+    ensures { result ≡ add_up w v u }
 {
     match (w, v, u) {
         (None, _, _) => true,
