@@ -12,7 +12,7 @@ use Rattle.ct_rule_parts.specs.declared.support.Support.{Support}
 use Rattle.ct_rule_parts.specs.declared.support.Support.TheVariants.{Bound, Odd, Local, Size}
 use Rattle.ct_rule_parts.specs.Support.{Stands}
 use Rattle.ct_kind.specs.Named.{NamedCode}
-use Rattle.ct_dual_files.specs.DualKind.{with_at_zero, support_by, kind_by, dual_kind, dual_support, odd_kind, odd_support, local_kind, local_support, IsDualChecked}
+use Rattle.ct_dual_files.specs.DualKind.{with_at_zero, support_by, dual_kind, dual_support, odd_support, local_support, IsDualChecked}
 use Rattle.ct_kind.specs.declared.fault.SubmitFault.TheVariants as fault
 use Rattle.ct_kind.proofs.Stating.{option_map-none, StatesWell, SaysSame}
 
@@ -37,7 +37,7 @@ local_gives_no_size d (Some reason) e size h = absurd cc
 
 -- a dual against which there is no reason is one, whatever the word of its kind and what it gives
 kind_states : (given : AcceptedValue → Support) (known : List NamedCode) (text : List ℕ) (d : Dual) → (IsAccepted (with_at_zero d) → Stands (given (with_at_zero d)))
-    → IsDual d → (kind_by given text d).reason known ≡ None → StatesWell (kind_by given text d) known (IsDualChecked d)
+    → IsDual d → (dual_kind given text d).reason known ≡ None → StatesWell (dual_kind given text d) known (IsDualChecked d)
 kind_states given known text d stands form own =
     record {
       entry = form.entry;
@@ -49,16 +49,16 @@ kind_states given known text d stands form own =
       stands = support_stands given d stands form (dual_fault (numbers_of d.entry) d) refl;
     }
 
-pub dual_states : (known : List NamedCode) (text : List ℕ) (d : Dual) → IsDual d → AllowsNone d.entry.w d.y → (dual_kind text d).reason known ≡ None
-    → StatesWell (dual_kind text d) known (IsDualChecked d)
+pub dual_states : (known : List NamedCode) (text : List ℕ) (d : Dual) → IsDual d → AllowsNone d.entry.w d.y → (dual_kind Bound text d).reason known ≡ None
+    → StatesWell (dual_kind Bound text d) known (IsDualChecked d)
 dual_states known text d form plain own = kind_states Bound known text d (λ accepted. (accepted, plain)) form own
 
-pub odd_states : (known : List NamedCode) (text : List ℕ) (d : Dual) (m : ℕ) → IsDual d → (odd_kind text d m).reason known ≡ None
-    → StatesWell (odd_kind text d m) known (IsDualChecked d)
+pub odd_states : (known : List NamedCode) (text : List ℕ) (d : Dual) (m : ℕ) → IsDual d → (dual_kind (λ accepted. Odd accepted m) text d).reason known ≡ None
+    → StatesWell (dual_kind (λ accepted. Odd accepted m) text d) known (IsDualChecked d)
 odd_states known text d m form own = kind_states (λ accepted. Odd accepted m) known text d (λ accepted. accepted) form own
 
-pub local_states : (known : List NamedCode) (text : List ℕ) (d : Dual) → IsDual d → (local_kind text d).reason known ≡ None
-    → StatesWell (local_kind text d) known (IsDualChecked d)
+pub local_states : (known : List NamedCode) (text : List ℕ) (d : Dual) → IsDual d → (dual_kind Local text d).reason known ≡ None
+    → StatesWell (dual_kind Local text d) known (IsDualChecked d)
 local_states known text d form own = kind_states Local known text d (λ accepted. accepted) form own
 
 -- a dual has no reason against it
@@ -66,11 +66,5 @@ pub dual_accepted : (d : Dual) → IsDualChecked d → option_map fault.Dual (du
 dual_accepted d checked = ap (option_map fault.Dual) (none-from_below (numbers_of d.entry) d checked.0 checked.1)
 
 -- it is the same over all codes
-pub dual_same : (text : List ℕ) (d : Dual) (left right : List NamedCode) → SaysSame (dual_kind text d) left right
-dual_same text d left right = record { reason = refl; words = refl; size = refl }
-
-pub odd_same : (text : List ℕ) (d : Dual) (m : ℕ) (left right : List NamedCode) → SaysSame (odd_kind text d m) left right
-odd_same text d m left right = record { reason = refl; words = refl; size = refl }
-
-pub local_same : (text : List ℕ) (d : Dual) (left right : List NamedCode) → SaysSame (local_kind text d) left right
-local_same text d left right = record { reason = refl; words = refl; size = refl }
+pub dual_same : (given : AcceptedValue → Support) (text : List ℕ) (d : Dual) (left right : List NamedCode) → SaysSame (dual_kind given text d) left right
+dual_same given text d left right = record { reason = refl; words = refl; size = refl }

@@ -19,10 +19,10 @@ abbrev pub support_by : (AcceptedValue → Support) → Option DualFault → Dua
 support_by given None d = given (with_at_zero d)
 support_by given (Some reason) d = Nothing
 
--- what evidence comes to that is a dual and gives this to the table where it is accepted, of this word of a kind: it has no code and no size, names
--- no part and stores no words, and its check is that of the numbers of its entry's scheme
-abbrev pub kind_by : (AcceptedValue → Support) → List ℕ → Dual → KindParts
-kind_by given text d = record {
+-- what a dual comes to as evidence, with the word of its kind and with what it gives to the table where it is accepted: it has no code and no size,
+-- names no part and stores no words, and its check is that of the numbers of its entry's scheme
+abbrev pub dual_kind : (AcceptedValue → Support) → List ℕ → Dual → KindParts
+dual_kind given text d = record {
   text = text;
   entry = d.entry;
   parts = [];
@@ -40,25 +40,13 @@ kind_by given text d = record {
 abbrev pub dual_support : Option DualFault → Dual → Support
 dual_support = support_by Bound
 
--- what evidence of kind dual or jdual comes to
-abbrev pub dual_kind : List ℕ → Dual → KindParts
-dual_kind = kind_by Bound
-
 -- what a dual of kind odd gives with its number of words: that parity may exclude so many
 abbrev pub odd_support : ℕ → Option DualFault → Dual → Support
 odd_support m = support_by (λ accepted. Odd accepted m)
 
--- what evidence of kind odd comes to
-abbrev pub odd_kind : List ℕ → Dual → ℕ → KindParts
-odd_kind text d m = kind_by (λ accepted. Odd accepted m) text d
-
 -- what a dual of kind jlocal gives: its local bound
 abbrev pub local_support : Option DualFault → Dual → Support
 local_support = support_by Local
-
--- what evidence of kind jlocal comes to
-abbrev pub local_kind : List ℕ → Dual → KindParts
-local_kind = kind_by Local
 
 -- c_0 is at least 1, and f(i) is at most what is allowed at each index that two words of a code of the entry may have
 abbrev pub IsDualChecked : Dual → Type 0

@@ -1,5 +1,6 @@
 -- What holds of evidence of every kind.
 use Rattle.std.proofs.Common.{◌≡◌, ℕ, true, List, codes}
+use Rattle.ct_rule_parts.specs.declared.support.Support.TheVariants as support
 use Rattle.ct_kind.specs.declared.evidence.Evidence.{Evidence}
 use Rattle.ct_kind.specs.declared.evidence.Evidence.TheVariants.{Words, Cosets, Partition, Build, Product, Dual, JohnsonDual, Odd, JohnsonLocal}
 use Rattle.ct_kind.specs.Named.{NamedCode}
@@ -10,7 +11,7 @@ use Rattle.ct_word_files.proofs.CosetsKind.{cosets_same}
 use Rattle.ct_partition_files.proofs.PartitionKind.{partition_same}
 use Rattle.ct_partition_files.proofs.ProductKind.{product_same}
 use Rattle.ct_build_files.proofs.BuildKind.{build_same}
-use Rattle.ct_dual_files.proofs.DualKind.{dual_same, odd_same, local_same}
+use Rattle.ct_dual_files.proofs.DualKind.{dual_same}
 
 -- evidence says the same over codes that are the same for the ids that it names
 pub kind_same : (evidence : Evidence) (left right : List NamedCode) → ((id : List ℕ) → names evidence id ≡ true → IsAlike id left right)
@@ -20,7 +21,7 @@ kind_same (Cosets e basis representatives) left right same = cosets_same e basis
 kind_same (Partition e between classes) left right same = partition_same e between classes left right
 kind_same (Product e pairs) left right same = product_same e pairs left right same
 kind_same (Build e step part other) left right same = build_same e step part other left right same
-kind_same (Dual d) left right same = dual_same (codes "dual") d left right
-kind_same (JohnsonDual d) left right same = dual_same (codes "jdual") d left right
-kind_same (Odd d m) left right same = odd_same (codes "odd") d m left right
-kind_same (JohnsonLocal d) left right same = local_same (codes "jlocal") d left right
+kind_same (Dual d) left right same = dual_same support.Bound (codes "dual") d left right
+kind_same (JohnsonDual d) left right same = dual_same support.Bound (codes "jdual") d left right
+kind_same (Odd d m) left right same = dual_same (λ accepted. support.Odd accepted m) (codes "odd") d left right
+kind_same (JohnsonLocal d) left right same = dual_same support.Local (codes "jlocal") d left right

@@ -7,6 +7,7 @@ use Rattle.ct_words.specs.declared.entry.Entry.{Entry}
 use Rattle.ct_words.specs.Code.{CodeValue, IsCodeOf}
 use Rattle.ct_build.specs.Build.{IsRightBuild}
 use Rattle.ct_classes.specs.Partition.{IsPartition}
+use Rattle.ct_rule_parts.specs.declared.support.Support.TheVariants as support
 use Rattle.ct_kind.specs.declared.evidence.Evidence.{Evidence}
 use Rattle.ct_kind.specs.declared.evidence.Evidence.TheVariants.{Words, Cosets, Partition, Build, Product, Dual, JohnsonDual, Odd, JohnsonLocal}
 use Rattle.ct_kind.specs.Named.{NamedCode, code_named, other_named}
@@ -17,7 +18,7 @@ use Rattle.ct_word_files.specs.CosetsKind.{cosets_kind, IsCosetsChecked}
 use Rattle.ct_partition_files.specs.PartitionKind.{partition_kind}
 use Rattle.ct_build_files.specs.BuildKind.{build_kind}
 use Rattle.ct_partition_files.specs.ProductKind.{product_kind, IsProductChecked}
-use Rattle.ct_dual_files.specs.DualKind.{dual_kind, odd_kind, local_kind, IsDualChecked}
+use Rattle.ct_dual_files.specs.DualKind.{dual_kind, IsDualChecked}
 use Rattle.ct_kind.specs.declared.fault.SubmitFault.{SubmitFault}
 
 -- what evidence comes to by its kind
@@ -27,10 +28,10 @@ kind_of (Cosets e basis representatives) = cosets_kind e basis representatives
 kind_of (Partition e between classes) = partition_kind e between classes
 kind_of (Build e step part other) = build_kind e step part other
 kind_of (Product e pairs) = product_kind e pairs
-kind_of (Dual d) = dual_kind (codes "dual") d
-kind_of (JohnsonDual d) = dual_kind (codes "jdual") d
-kind_of (Odd d m) = odd_kind (codes "odd") d m
-kind_of (JohnsonLocal d) = local_kind (codes "jlocal") d
+kind_of (Dual d) = dual_kind support.Bound (codes "dual") d
+kind_of (JohnsonDual d) = dual_kind support.Bound (codes "jdual") d
+kind_of (Odd d m) = dual_kind (λ accepted. support.Odd accepted m) (codes "odd") d
+kind_of (JohnsonLocal d) = dual_kind support.Local (codes "jlocal") d
 
 -- the entry that evidence is about
 abbrev pub stated_entry : Evidence → Entry

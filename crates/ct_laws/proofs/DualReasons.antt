@@ -8,12 +8,12 @@ use Rattle.ct_duals.specs.Bound.{AcceptedValue}
 use Rattle.ct_duals.specs.Check.{dual_fault}
 use Rattle.ct_duals.proofs.Faults.{lead-means, lead-from, above-means, above-from, below-from_none, none-from_below}
 use Rattle.ct_rule_parts.specs.declared.support.Support.{Support}
-use Rattle.ct_rule_parts.specs.declared.support.Support.TheVariants.{Nothing, Odd, Local}
+use Rattle.ct_rule_parts.specs.declared.support.Support.TheVariants.{Nothing, Bound, Odd, Local}
 use Rattle.ct_kind.specs.Named.{NamedCode}
 use Rattle.ct_kind.specs.declared.fault.SubmitFault.{SubmitFault}
 use Rattle.ct_kind.specs.declared.fault.SubmitFault.TheVariants as fault
 use Rattle.ct_laws.proofs.Says.{Says, says-also, says-map}
-use Rattle.ct_dual_files.specs.DualKind.{with_at_zero, support_by, dual_kind, odd_kind, local_kind, IsDualChecked}
+use Rattle.ct_dual_files.specs.DualKind.{with_at_zero, support_by, dual_kind, IsDualChecked}
 use Rattle.ct_laws.specs.DualRefusal.{IsDualRefusal}
 
 says-dual : (d : Dual) → Says (dual_fault (numbers_of d.entry) d) (IsDualChecked d) (λ (f : DualFault). IsDualRefusal d (fault.Dual f))
@@ -36,15 +36,15 @@ dual-back d (fault.Dual f) h = (f, refl, h)
 dual-back d reason h = absurd h
 
 -- evidence of kind dual, jdual, odd or jlocal
-pub dual-reasons : (known : List NamedCode) (text : List ℕ) (d : Dual) → Says ((dual_kind text d).reason known) (IsDualChecked d) (IsDualRefusal d)
+pub dual-reasons : (known : List NamedCode) (text : List ℕ) (d : Dual) → Says ((dual_kind Bound text d).reason known) (IsDualChecked d) (IsDualRefusal d)
 dual-reasons known text d =
     says-also (says-map fault.Dual (dual_fault (numbers_of d.entry) d) (says-dual d)) (λ right. right) (λ right. right)
     (λ reason h. subst (IsDualRefusal d) h.1 h.2) (dual-back d)
 
-pub odd-reasons : (known : List NamedCode) (text : List ℕ) (d : Dual) (m : ℕ) → Says ((odd_kind text d m).reason known) (IsDualChecked d) (IsDualRefusal d)
+pub odd-reasons : (known : List NamedCode) (text : List ℕ) (d : Dual) (m : ℕ) → Says ((dual_kind (λ accepted. Odd accepted m) text d).reason known) (IsDualChecked d) (IsDualRefusal d)
 odd-reasons known text d m = dual-reasons known text d
 
-pub local-reasons : (known : List NamedCode) (text : List ℕ) (d : Dual) → Says ((local_kind text d).reason known) (IsDualChecked d) (IsDualRefusal d)
+pub local-reasons : (known : List NamedCode) (text : List ℕ) (d : Dual) → Says ((dual_kind Local text d).reason known) (IsDualChecked d) (IsDualRefusal d)
 local-reasons known text d = dual-reasons known text d
 
 -- what a dual gives that is accepted, and one that is refused
@@ -58,17 +58,17 @@ given_nothing by d reason refused =
     ap (λ (o : Option DualFault). support_by by o d) ((says-dual d).tells f wrong)
 
 -- with an odd number of words it gives that so many may be excluded, or nothing
-pub odd_gives : (text : List ℕ) (d : Dual) (m : ℕ) (size : Option ℕ) → IsDualChecked d → (odd_kind text d m).gives size ≡ Odd (with_at_zero d) m
+pub odd_gives : (text : List ℕ) (d : Dual) (m : ℕ) (size : Option ℕ) → IsDualChecked d → (dual_kind (λ accepted. Odd accepted m) text d).gives size ≡ Odd (with_at_zero d) m
 odd_gives text d m size checked = given (λ accepted. Odd accepted m) d checked
 
 pub odd_gives_nothing : (text : List ℕ) (d : Dual) (m : ℕ) (reason : SubmitFault) (size : Option ℕ) → IsDualRefusal d reason
-    → (odd_kind text d m).gives size ≡ Nothing
+    → (dual_kind (λ accepted. Odd accepted m) text d).gives size ≡ Nothing
 odd_gives_nothing text d m reason size refused = given_nothing (λ accepted. Odd accepted m) d reason refused
 
 -- of kind jlocal it gives its local bound, or nothing
-pub local_gives : (text : List ℕ) (d : Dual) (size : Option ℕ) → IsDualChecked d → (local_kind text d).gives size ≡ Local (with_at_zero d)
+pub local_gives : (text : List ℕ) (d : Dual) (size : Option ℕ) → IsDualChecked d → (dual_kind Local text d).gives size ≡ Local (with_at_zero d)
 local_gives text d size checked = given Local d checked
 
 pub local_gives_nothing : (text : List ℕ) (d : Dual) (reason : SubmitFault) (size : Option ℕ) → IsDualRefusal d reason
-    → (local_kind text d).gives size ≡ Nothing
+    → (dual_kind Local text d).gives size ≡ Nothing
 local_gives_nothing text d reason size refused = given_nothing Local d reason refused

@@ -13,12 +13,12 @@ ghost use Rattle.ct_duals.specs.declared.dual.Dual.{Dual};
 ghost use Rattle.ct_duals.specs.Dual.{IsDual};
 ghost use Rattle.ct_kind.specs.Named.{NamedCode};
 ghost use Rattle.ct_kind.specs.declared.fault.SubmitFault.{SubmitFault};
-ghost use Rattle.ct_rule_parts.specs.declared.support.Support.TheVariants.{Nothing, Odd, Local};
+ghost use Rattle.ct_rule_parts.specs.declared.support.Support.TheVariants.{Nothing, Bound, Odd, Local};
 ghost use Rattle.ct_dual_files.specs.Dual.{document_dual, odd_of, johnson_dual_of, local_dual_of};
 ghost use Rattle.ct_dual_files.specs.DualDocument.{IsDualAnswer, IsJohnsonDualAnswer};
 ghost use Rattle.ct_dual_files.specs.OddDocument.{IsOddSize, IsOddAnswer};
 ghost use Rattle.ct_dual_files.specs.LocalDocument.{IsLocalDualAnswer};
-ghost use Rattle.ct_dual_files.specs.DualKind.{dual_kind, odd_kind, local_kind, IsDualChecked};
+ghost use Rattle.ct_dual_files.specs.DualKind.{dual_kind, IsDualChecked};
 ghost use Rattle.ct_laws.specs.DualRefusal.{IsDualRefusal};
 ghost use Rattle.ct_dual_files.specs.WrittenDuals.{integer_list, pair_list, plain_table, dual_table, odd_table, weighted_table, johnson_dual_table, local_dual_table};
 ghost use Rattle.ct_laws.specs.DualExamples.{thirteen_six, eight_four_four, nine_four, document, odd_document, local_document};
@@ -51,31 +51,31 @@ pub fn duals_read_back()
 /// so it is where it gives its local bound.
 pub fn reasons_against_duals()
     ensures dual { (known : List NamedCode) (text : List ℕ) (d : Dual) (reason : SubmitFault)
-        → ((dual_kind text d).reason known ≡ Some reason) ↔ IsDualRefusal d reason }
+        → ((dual_kind Bound text d).reason known ≡ Some reason) ↔ IsDualRefusal d reason }
     ensures odd { (known : List NamedCode) (text : List ℕ) (d : Dual) (m : ℕ) (reason : SubmitFault)
-        → ((odd_kind text d m).reason known ≡ Some reason) ↔ IsDualRefusal d reason }
+        → ((dual_kind (λ accepted. Odd accepted m) text d).reason known ≡ Some reason) ↔ IsDualRefusal d reason }
     ensures local { (known : List NamedCode) (text : List ℕ) (d : Dual) (reason : SubmitFault)
-        → ((local_kind text d).reason known ≡ Some reason) ↔ IsDualRefusal d reason }
+        → ((dual_kind Local text d).reason known ≡ Some reason) ↔ IsDualRefusal d reason }
 {}
 
 /// What a dual gives to the table with an odd number of words: that parity may exclude so many by the dual with its f(0), where its
 /// conditions hold, and nothing where it is refused; it never gives its bound.
 pub fn odd_duals_give_their_sizes()
     ensures accepted { (text : List ℕ) (d : Dual) (m : ℕ) (size : Option ℕ) → IsDualChecked d
-        → (odd_kind text d m).gives size ≡ Odd (record { dual = d; at_zero = combination (numbers_of d.entry) d.c 0 }) m }
+        → (dual_kind (λ accepted. Odd accepted m) text d).gives size ≡ Odd (record { dual = d; at_zero = combination (numbers_of d.entry) d.c 0 }) m }
     ensures refused { (text : List ℕ) (d : Dual) (m : ℕ) (reason : SubmitFault) (size : Option ℕ) → IsDualRefusal d reason
-        → (odd_kind text d m).gives size ≡ Nothing }
-    ensures known { (size : Option ℕ) → (odd_kind (codes "odd") nine_four 21).gives size ≡ Odd (record { dual = nine_four; at_zero = pos 48 }) 21 }
+        → (dual_kind (λ accepted. Odd accepted m) text d).gives size ≡ Nothing }
+    ensures known { (size : Option ℕ) → (dual_kind (λ accepted. Odd accepted 21) (codes "odd") nine_four).gives size ≡ Odd (record { dual = nine_four; at_zero = pos 48 }) 21 }
 {}
 
 /// What a dual of kind jlocal gives to the table: its local bound, by the dual with its f(0), where its conditions hold, and nothing where
 /// it is refused; it never gives the bound of kind jdual.
 pub fn local_duals_give_their_bounds()
     ensures accepted { (text : List ℕ) (d : Dual) (size : Option ℕ) → IsDualChecked d
-        → (local_kind text d).gives size ≡ Local (record { dual = d; at_zero = combination (numbers_of d.entry) d.c 0 }) }
+        → (dual_kind Local text d).gives size ≡ Local (record { dual = d; at_zero = combination (numbers_of d.entry) d.c 0 }) }
     ensures refused { (text : List ℕ) (d : Dual) (reason : SubmitFault) (size : Option ℕ) → IsDualRefusal d reason
-        → (local_kind text d).gives size ≡ Nothing }
-    ensures known { (size : Option ℕ) → (local_kind (codes "jlocal") eight_local).gives size
+        → (dual_kind Local text d).gives size ≡ Nothing }
+    ensures known { (size : Option ℕ) → (dual_kind Local (codes "jlocal") eight_local).gives size
         ≡ Local (record { dual = eight_local; at_zero = pos 24 }) }
 {}
 
