@@ -2,7 +2,7 @@
 use Rattle.std.proofs.Common.{◌≡◌, ℕ, zero, suc, ◌+◌, ◌<◌, ◌≤◌, Bool, true, false, List, [], ◌∷◌, length, replicate, All, Option, Some, None, ◌⊎◌, inl, inr, refl, sym, ap, subst, ◌∙◌, arith}
 use Rattle.std.proofs.Common.{Result, Ok, Err, Vec, Global}
 use Rattle.std.specs.Prelude.{◌↔◌, slice_get, Contains, IfOk}
-use Rattle.std.specs.List.{cons_option}
+use Rattle.std.specs.List.{cons_option, slice_index_or}
 use Rattle.std.specs.List.Sorted.{IsStrictlyIncreasing}
 use Rattle.std.specs.Option.{option_to_list}
 use Rattle.std.proofs.lemmas.Bool.{cases_eq}
@@ -14,7 +14,7 @@ use Rattle.ct_rules.specs.Rule.{named_place}
 use Rattle.ct_rules.specs.Derivation.{LineValue, IsDerivation}
 use Rattle.ct_rules.proofs.Applied.{applies_from_premises}
 use Rattle.ct_rules.proofs.LoweredRules.{support_there}
-use Rattle.ct_derive.specs.Pieces.{cited_places, parts_at, IsNeeded, AreNeeded}
+use Rattle.ct_derive.specs.Pieces.{cited_places, IsNeeded, AreNeeded}
 use Rattle.ct_derive.specs.Pieces.IsNeeded.{by_line, by_piece}
 use Rattle.ct_derive.specs.Pruning.{is_marked, with_marks}
 use Rattle.ct_derive.specs.Inside.Needed.{AreMarkedPieces}
@@ -124,9 +124,9 @@ pieces_marked place own parts lines marks here at below h = record {
     has_below : (k : ℕ) → Contains own k → k < place
     has_below k has = All-contains (λ p. p < place) own k below has
 
-    is_own : parts_at parts place ≡ own
+    is_own : slice_index_or parts place [] ≡ own
     is_own =
-        same_Some (parts_at parts place) own
+        same_Some (slice_index_or parts place []) own
         (sym (slice_get-get_or parts place [] (slice_get_within parts place own at)) ∙ at)
 
     sound : (p : ℕ) → (is_marked marks p ≡ true) ⊎ Contains own p → IsNeeded parts lines p
@@ -150,15 +150,15 @@ pieces_complete : (parts : List (List ℕ)) (lines : List LineValue) (marks : Li
 pieces_complete parts lines marks h p (by_line q has) = h.cited q has
 pieces_complete parts lines marks h p (by_piece q r needed has) = part (pieces_complete parts lines marks h q needed)
   where
-    some_parts : (ps : List (List ℕ)) (k : ℕ) → Contains (parts_at ps k) r → slice_get ps k ≡ Some (parts_at ps k)
+    some_parts : (ps : List (List ℕ)) (k : ℕ) → Contains (slice_index_or ps k []) r → slice_get ps k ≡ Some (slice_index_or ps k [])
     some_parts [] k none = absurd (let inside = none.1 in omega arith)
     some_parts (own ∷ ps) zero some = refl
     some_parts (own ∷ ps) (suc k) some = some_parts ps k some
 
     part : is_marked marks q ≡ true → is_marked marks r ≡ true
     part marked =
-        All-contains (λ x. is_marked marks x ≡ true) (parts_at parts q) r
-        (h.closed q (parts_at parts q) (omega arith) (some_parts parts q has) marked) has
+        All-contains (λ x. is_marked marks x ≡ true) (slice_index_or parts q []) r
+        (h.closed q (slice_index_or parts q []) (omega arith) (some_parts parts q has) marked) has
 
 -- so the marked places are those of the needed pieces
 pub needed_from_marks : (parts : List (List ℕ)) (lines : List LineValue) (marks : List Bool) (places : List ℕ)

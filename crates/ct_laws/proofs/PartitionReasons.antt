@@ -1,5 +1,5 @@
 -- Why lists of words are no classes of a partition.
-use Rattle.std.proofs.Common.{◌≡◌, ℕ, ◌≤◌, ◌==◌, ◌||◌, Bool, true, false, cond, nat_lt, List, [], ◌∷◌, length, Option, Some, None, refl, sym, subst, inl, inr, ◌⊎◌, arith}
+use Rattle.std.proofs.Common.{◌≡◌, ℕ, ◌≤◌, ◌==◌, ◌||◌, Bool, true, false, cond, nat_lt, List, [], ◌∷◌, length, Option, Some, None, option_map, refl, sym, subst, inl, inr, ◌⊎◌, arith}
 use Rattle.std.specs.List.{list_any}
 use Rattle.std.proofs.lemmas.Bool.{eqb-false, ne_eqb, or_parts, or_from, both_ways}
 use Rattle.std.proofs.lemmas.List.Elements.{All-nil, All-cons, All-head, All-tail}
@@ -11,7 +11,7 @@ use Rattle.ct_classes.specs.declared.fault.PartitionFault.{PartitionFault}
 use Rattle.ct_classes.specs.declared.fault.PartitionFault.TheVariants as partition
 use Rattle.ct_classes.specs.declared.fault.TheConstants.{MAX_CLASSES}
 use Rattle.ct_classes.specs.Partition.{words_of_classes}
-use Rattle.ct_partitions.specs.Check.{class_at, counted, need, distance_at, is_close, wrong_count, partition_size_fault, partition_weight_fault, partition_repeated_fault, partition_close_fault, partition_fault}
+use Rattle.ct_partitions.specs.Check.{class_at, counted, need, distance_at, is_close, wrong_count, partition_weight_fault, partition_repeated_fault, partition_close_fault, partition_fault}
 use Rattle.ct_laws.specs.Weights.{HaveWeight, IsFirstOfOtherWeight}
 use Rattle.ct_kind.specs.Named.{NamedCode}
 use Rattle.ct_kind.specs.declared.fault.SubmitFault.{SubmitFault}
@@ -131,7 +131,7 @@ unfolding partition_fault
 says-classes e between classes =
     let words = words_of_classes classes in
     says-also
-    (says-first (partition_size_fault classes) (first_of (partition_weight_fault e.n e.w words) (first_of (partition_repeated_fault words) (partition_close_fault e.n e.d between classes)))
+    (says-first (option_map partition.Size (wrong_count classes)) (first_of (partition_weight_fault e.n e.w words) (first_of (partition_repeated_fault words) (partition_close_fault e.n e.d between classes)))
     (says-map partition.Size (wrong_count classes) (says-counts classes))
     (says-first (partition_weight_fault e.n e.w words) (first_of (partition_repeated_fault words) (partition_close_fault e.n e.d between classes))
     (says-weight e words partition.Weight (λ (w : Option ℕ). partition_weight_fault e.n w words) refl (λ w. refl))

@@ -1,7 +1,7 @@
 -- The pieces that a derivation needs, in the order of the ledger: they are there, and stand without the others.
 use Rattle.std.proofs.Common.{◌≡◌, ◌≢◌, ℕ, zero, suc, ◌+◌, ◌-◌, ◌<◌, ◌≤◌, Bool, true, false, cond, not, ◌||◌, nat_lt, List, [], ◌∷◌, ◌++◌, map, length, Option, Some, None, option_map, refl, sym, ap, ap₂, subst, ◌∙◌, arith}
 use Rattle.std.specs.Prelude.{All, AllPairs, Contains, slice_get, slice_index, filter, ◌==◌}
-use Rattle.std.specs.List.{cons_option, filter_map, flat_map, position_or_len}
+use Rattle.std.specs.List.{cons_option, filter_map, flat_map, position_or_len, slice_index_or}
 use Rattle.std.specs.List.Sorted.{IsStrictlyIncreasing}
 use Rattle.std.specs.Str.{bytes_eq}
 use Rattle.std.proofs.lemmas.Bool.{lt-ltb}
@@ -18,7 +18,7 @@ use Rattle.ct_piece.specs.Standing.{AreStanding}
 use Rattle.ct_piece.specs.Supports.{support_of, supports_of}
 use Rattle.ct_piece.proofs.StandingLemmas.{AreStanding-passing}
 use Rattle.ct_piece.proofs.LeavingLemmas.{AllPassed, ArePassed}
-use Rattle.ct_derive.specs.Pieces.{cited_places, parts_at, IsNeeded, AreNeeded}
+use Rattle.ct_derive.specs.Pieces.{cited_places, IsNeeded, AreNeeded}
 use Rattle.ct_derive.specs.Pieces.IsNeeded.{by_line, by_piece}
 use Rattle.ct_derive.specs.Text.{block_text, evidence_text}
 use Rattle.ct_derive.proofs.NeededPieces.{cited_within}
@@ -204,11 +204,11 @@ there_below (x ∷ xs) zero within = (x, refl)
 there_below (x ∷ xs) (suc p) within = there_below xs p (omega (arith, within))
 
 -- the parts of a piece, among those of each
-parts-own : (pieces : List PieceValue) (i : ℕ) (p : PieceValue) → slice_get pieces i ≡ Some p → parts_at (parts_of_each pieces) i ≡ part_places pieces p
+parts-own : (pieces : List PieceValue) (i : ℕ) (p : PieceValue) → slice_get pieces i ≡ Some p → slice_index_or (parts_of_each pieces) i [] ≡ part_places pieces p
 parts-own pieces i p is =
     get_or_from_slice_get (parts_of_each pieces) i (part_places pieces p) [] (slice_get-map (part_places pieces) pieces i ∙ ap (option_map (part_places pieces)) is)
 
-parts-none : (parts : List (List ℕ)) (i q : ℕ) → Contains (parts_at parts i) q → i < length parts
+parts-none : (parts : List (List ℕ)) (i q : ℕ) → Contains (slice_index_or parts i []) q → i < length parts
 parts-none [] i q has = absurd (let within = has.1 in omega (arith, within))
 parts-none (own ∷ parts) zero q has = omega arith
 parts-none (own ∷ parts) (suc i) q has = let rest = parts-none parts i q has in omega (arith, rest)

@@ -18,7 +18,7 @@ use Rattle.ct_words.specs.declared.fault.CodeFault.TheVariants.{Weight as Weight
 use Rattle.ct_classes.specs.declared.fault.TheConstants.{MAX_CLASSES}
 use Rattle.ct_classes.specs.declared.fault.PartitionFault.TheVariants.{Size, Weight}
 use Rattle.ct_classes.specs.Partition.{words_of_classes, IsPartition, IsSoundPartition}
-use Rattle.ct_partitions.specs.Check.{class_at, counted, need, distance_at, is_close, wrong_count, partition_size_fault, partition_weight_fault, partition_repeated_fault, partition_close_fault, partition_fault}
+use Rattle.ct_partitions.specs.Check.{class_at, counted, need, distance_at, is_close, wrong_count, partition_weight_fault, partition_repeated_fault, partition_close_fault, partition_fault}
 use Rattle.ct_partitions.proofs.PairFaults.{between-le-need, needs_from_none, different_from_needs}
 
 -- two numbers are equal where the next ones are
@@ -198,13 +198,13 @@ pub record HasSizes (classes : List (List ℕ)) : Type 0 where
   pub no_empty_class : All (λ c. 1 ≤ length c) classes
   pub few_words : length (words_of_classes classes) ≤ MAX_WORDS
 
-size-none : (classes : List (List ℕ)) → partition_size_fault classes ≡ None → HasSizes classes
+size-none : (classes : List (List ℕ)) → option_map Size (wrong_count classes) ≡ None → HasSizes classes
 size-none classes e = elim (cases_Bool (length classes == 0 || nat_lt MAX_CLASSES (length classes))) [
-  | inl out ↦ let fault : partition_size_fault classes ≡ Some (Size (length classes)) = rw out refl in cc
+  | inl out ↦ let fault : option_map Size (wrong_count classes) ≡ Some (Size (length classes)) = rw out refl in cc
   | inr within ↦ elim (cases_Bool (list_any (λ c. length c == 0) classes)) [
-    | inl empty ↦ let fault : partition_size_fault classes ≡ Some (Size 0) = rw (within, empty) refl in cc
+    | inl empty ↦ let fault : option_map Size (wrong_count classes) ≡ Some (Size 0) = rw (within, empty) refl in cc
     | inr full ↦ elim (cases_Bool (nat_lt MAX_WORDS (length (words_of_classes classes)))) [
-      | inl many ↦ let fault : partition_size_fault classes ≡ Some (Size (counted (length (words_of_classes classes)))) = rw (within, full, many) refl in cc
+      | inl many ↦ let fault : option_map Size (wrong_count classes) ≡ Some (Size (counted (length (words_of_classes classes)))) = rw (within, full, many) refl in cc
       | inr few ↦
           let parts = or_parts (length classes == 0) (nat_lt MAX_CLASSES (length classes)) within in
           let some = eqb-false (length classes) 0 parts.0 in
@@ -221,7 +221,7 @@ size-none classes e = elim (cases_Bool (length classes == 0 || nat_lt MAX_CLASSE
 pub sizes_of_count : (classes : List (List ℕ)) → wrong_count classes ≡ None → HasSizes classes
 sizes_of_count classes right = size-none classes (ap (option_map Size) right)
 
-size_none_from : (classes : List (List ℕ)) → HasSizes classes → partition_size_fault classes ≡ None
+size_none_from : (classes : List (List ℕ)) → HasSizes classes → option_map Size (wrong_count classes) ≡ None
 size_none_from classes sizes =
     let some = sizes.class_count.0 in
     rw (
@@ -254,7 +254,7 @@ pub partition_from_no_fault : (e : Entry) (between : ℕ) (classes : List (List 
 unfolding partition_fault
 partition_from_no_fault e between classes some nearer below no_fault =
     let words = words_of_classes classes in
-    let first = first_of-None (partition_size_fault classes) _ no_fault in
+    let first = first_of-None (option_map Size (wrong_count classes)) _ no_fault in
     let second = first_of-None (partition_weight_fault e.n e.w words) _ first.1 in
     let third = first_of-None (partition_repeated_fault words) (partition_close_fault e.n e.d between classes) second.1 in
     let none = option_map-None _ (least_pair (is_close e.n e.d between classes) (all_places (length words))) third.1 in (

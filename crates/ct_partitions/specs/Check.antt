@@ -43,10 +43,6 @@ wrong_count classes =
     else if nat_lt MAX_WORDS (length (words_of_classes classes)) then Some (counted (length (words_of_classes classes)))
     else None
 
--- the fault of a wrong count
-abbrev pub partition_size_fault : List (List ℕ) → Option PartitionFault
-partition_size_fault classes = option_map Size (wrong_count classes)
-
 -- the first word that has not the weight of the entry
 abbrev pub partition_weight_fault : ℕ → Option ℕ → List ℕ → Option PartitionFault
 partition_weight_fault n None words = None
@@ -66,6 +62,6 @@ partition_close_fault n d between classes =
 -- the first reason why the lists are not accepted as classes: size, weight, repeated, close, in this order; none where they are
 unfoldable pub partition_fault : Entry → ℕ → List (List ℕ) → Option PartitionFault
 partition_fault e between classes =
-    first_of (partition_size_fault classes)
+    first_of (option_map Size (wrong_count classes))
     (first_of (partition_weight_fault e.n e.w (words_of_classes classes))
     (first_of (partition_repeated_fault (words_of_classes classes)) (partition_close_fault e.n e.d between classes)))

@@ -2,6 +2,7 @@ use Rattle.std.proofs.Common.{◌≡◌, ℕ, zero, suc, ◌+◌, ◌<◌, [], �
 use Rattle.std.specs.Prelude.{◌≢◌, AllPairs, Contains}
 use Rattle.std.proofs.lemmas.List.Elements.{All-nil, All-cons}
 use Rattle.std.proofs.lemmas.Option.{none-some, same_Some}
+use Rattle.std.specs.List.{slice_index_or}
 use Rattle.ct_words.specs.declared.claim.Claim.{Claim}
 use Rattle.ct_rule_parts.specs.Slot.{claim_at, lower_at}
 use Rattle.ct_rules.specs.Rule.{row_of}
@@ -9,7 +10,7 @@ use Rattle.ct_rules.specs.Derivation.{LineValue, IsDerivation}
 use Rattle.ct_rules.proofs.Derivations.{derivation-nil, derivation-push}
 use Rattle.ct_laws.specs.RuleExamples.{one_at_three, one_at_four, four_at_six, four_at_five, four_by_support}
 use Rattle.ct_derive.specs.Explanation.{IsNamedLater}
-use Rattle.ct_derive.specs.Pieces.{parts_at, IsNeeded}
+use Rattle.ct_derive.specs.Pieces.{IsNeeded}
 use Rattle.ct_derive.specs.Pieces.IsNeeded.{by_line, by_piece}
 use Rattle.ct_laws.proofs.derived_lines.known_explanations.Goals as goal
 
@@ -90,7 +91,7 @@ pub returns-clause-no_part : goal.returns-clause-no_part
 unfolding row_of
 returns-clause-no_part c = λ h. one_not_needed 1 h refl
   where
-    of_place : (k q : ℕ) → Contains (parts_at ([] ∷ [] ∷ (0 ∷ []) ∷ []) k) q → q ≡ 0
+    of_place : (k q : ℕ) → Contains (slice_index_or ([] ∷ [] ∷ (0 ∷ []) ∷ []) k []) q → q ≡ 0
     of_place zero q has = absurd (let within = has.1 in omega arith)
     of_place (suc zero) q has = absurd (let within = has.1 in omega arith)
     of_place (suc (suc zero)) q (zero, within, is) = sym is
