@@ -70,7 +70,7 @@ whole : (line : List ℕ) (id : Option (List ℕ)) (document rest : List (List �
 whole line id [] rest filled begins = absurd (let e = filled.2 in cc)
 whole line id (first ∷ document) rest filled begins =
     let count : length (first ∷ document) ≡ length document + 1 = omega arith in
-    counted line id first document rest (begins ∙ ap (λ (k : ℕ). Submit id (Lines k)) count)
+    counted (command.CutOff ∷ []) line id first document rest (begins ∙ ap (λ (k : ℕ). Submit id (Lines k)) count)
 
 -- the text of a submission is one command
 pub written_is_read : (id document rest : List ℕ) → is_id id ≡ true → line_count document < 2 ^ 64

@@ -50,11 +50,19 @@ completed pending (line ∷ lines) = option_to_list (completed_by pending line) 
 abbrev pub open_after_all : Option Pending → List (List ℕ) → Option Pending
 open_after_all pending lines = fold open_after pending lines
 
+-- what is asked for at the end of lines: this, where a submission is open
+abbrev pub at_last : List Command → Option Pending → List Command
+at_last last None = []
+at_last last (Some p) = last
+
 -- a submission that is open at the end of the input is cut off
 abbrev pub cut_off : Option Pending → List Command
-cut_off None = []
-cut_off (Some p) = command.CutOff ∷ []
+cut_off pending = at_last (command.CutOff ∷ []) pending
+
+-- the commands that lines complete, and then this, where a submission is open at their end
+abbrev pub asked_for : List Command → List (List ℕ) → List Command
+asked_for last lines = completed None lines ++ at_last last (open_after_all None lines)
 
 -- the commands of the lines of an input: those that the lines complete, and a submission that the end cuts off
 abbrev pub commands_of : List (List ℕ) → List Command
-commands_of lines = completed None lines ++ cut_off (open_after_all None lines)
+commands_of lines = asked_for (command.CutOff ∷ []) lines

@@ -1,3 +1,4 @@
 pub mod Form
 pub mod Command
+pub mod Input
 pub mod Submission

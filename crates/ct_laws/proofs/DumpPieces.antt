@@ -38,6 +38,7 @@ use Rattle.ct_piece.proofs.StandingLemmas.{WasMade, submitted-ok, submitted-from
 use Rattle.ct_piece.proofs.Accepting.{not_taken}
 use Rattle.ct_session.specs.Reply.{pieces_after, submission_reply}
 use Rattle.ct_replies.specs.Refusals.{is_refusal}
+use Rattle.ct_session.proofs.Asked.{answers_all}
 use Rattle.ct_session.specs.Run.{AreReplies, AnswersCommands, IsRun, pieces_of}
 use Rattle.ct_replies.specs.Text.{reply_text}
 use Rattle.ct_replies.specs.declared.reply.Reply.{Reply}
@@ -123,7 +124,7 @@ dump_text-commands pieces h short =
     let rest = flat_map piece_dump pieces in
     ap (λ t. commands_of (lines_of t)) (append_assoc (comment (length pieces)) (LINE_FEED ∷ []) rest)
     ∙ ap commands_of (lines_of-next (comment (length pieces)) rest (IsLine-comment (length pieces) small))
-    ∙ alone Nothing (comment (length pieces)) (lines_of rest) (form_of-comment (length pieces)) refl
+    ∙ alone _ Nothing (comment (length pieces)) (lines_of rest) (form_of-comment (length pieces)) refl
     ∙ pieces_dump-commands pieces short h.named
 
 -- the dump of pieces that stand leads to them
@@ -162,7 +163,8 @@ submissions_are_accepted pieces h short =
 -- the dump of pieces that stand is accepted, piece by piece
 pub dump_is_accepted : (pieces : List PieceValue) → AreStanding pieces → AreShort pieces → IsRun (dump_text pieces) (flat_map acceptance_text pieces) false
 dump_is_accepted pieces h short =
-    subst (λ (cs : List Command). AnswersCommands [] cs (flat_map acceptance_text pieces) false) (sym (dump_text-commands pieces h short)) (submissions_are_accepted pieces h short)
+    answers_all _ (lines_of (dump_text pieces)) (flat_map acceptance_text pieces) false
+    (subst (λ (cs : List Command). AnswersCommands [] cs (flat_map acceptance_text pieces) false) (sym (dump_text-commands pieces h short)) (submissions_are_accepted pieces h short))
 
 -- a submission leaves documents within the limit
 with_piece-short : (pieces : List PieceValue) (id document : List ℕ) (made : Result PieceValue SubmitFault) → submitted pieces id document ≡ made → AreShort pieces → AreShort (with_piece pieces made)

@@ -51,6 +51,7 @@ use Rattle.ct_piece.specs.Piece.{PieceValue, stored_by, stored_words}
 use Rattle.ct_piece.specs.Standing.{AreMade, AreStanding}
 use Rattle.ct_piece.specs.declared.limits.TheConstants.{MAX_PIECES}
 use Rattle.ct_session.specs.Reply.{pieces_after}
+use Rattle.ct_session.proofs.Asked.{answers_all}
 use Rattle.ct_session.specs.Run.{AnswersCommands, IsRun, pieces_of}
 use Rattle.ct_replies.specs.Text.{reply_text}
 use Rattle.ct_laws.specs.Acceptance.{acceptance_text}
@@ -244,7 +245,7 @@ primal-comment (stop.Least p) d after shown =
     (pairs_line p.a (recursion_from_All (λ (u : ℕ × ℤ). (u.0 < 2 ^ 64) × (unsigned_abs u.1 < 2 ^ 64)) p.a small)) in
     ap (λ t. commands_of (lines_of t)) (append_assoc body (LINE_FEED ∷ []) after)
     ∙ ap commands_of (lines_of-next body after line)
-    ∙ alone Nothing body (lines_of after) (form_of-primal p) refl
+    ∙ alone _ Nothing body (lines_of after) (form_of-primal p) refl
 
 bound_small : (e : Entry) (d : Dual) → IsEntry e → found_dual e ≡ Some d → bound_of_dual d < 2 ^ 64
 bound_small e d entry same =
@@ -266,7 +267,7 @@ proposal-command e own rest h entry =
     (append_assoc ((line ++ LINE_FEED ∷ []) ++ primal) (piece_dump p) rest ∙ append_assoc (line ++ LINE_FEED ∷ []) primal after
     ∙ append_assoc line (LINE_FEED ∷ []) (primal ++ after))
     ∙ ap commands_of (lines_of-next line (primal ++ after) (IsLine-comment e (bound_of_dual h.dual) (bound_small e h.dual entry h.found)))
-    ∙ alone Nothing line (lines_of (primal ++ after)) (form_of-comment (bound_of_dual h.dual) stopped) refl
+    ∙ alone _ Nothing line (lines_of (primal ++ after)) (form_of-comment (bound_of_dual h.dual) stopped) refl
     ∙ primal-comment (stop_for e) h.dual after (shown e h.dual entry h.found)
     ∙ piece_dump-command p rest (within e own h) (find_id-named e entry)
 
@@ -292,9 +293,10 @@ pub proposals-taken : (es : List Entry) (text : List ℕ) → All IsEntry es →
     → IsRun text (flat_map taken_text es) false
 proposals-taken es text all apart few h =
     let ps = pieces es text h in
-    subst (λ (cs : List Command). AnswersCommands [] cs (flat_map taken_text es) false) (sym (commands es text h all))
+    answers_all _ (lines_of text) (flat_map taken_text es) false
+    (subst (λ (cs : List Command). AnswersCommands [] cs (flat_map taken_text es) false) (sym (commands es text h all))
     (subst (λ (t : List ℕ). AnswersCommands [] (map submission_of ps) t false) (texts es text h)
-    (submissions_are_accepted ps (standing es text h all apart few) (short es text h)))
+    (submissions_are_accepted ps (standing es text h all apart few) (short es text h))))
 
 -- and its piece is of the entry
 pub proposals-pieces : (es : List Entry) (text : List ℕ) → All IsEntry es → AllPairs (λ e f. e ≢ f) es → length es ≤ MAX_PIECES → AreProposed es text

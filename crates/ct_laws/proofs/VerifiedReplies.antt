@@ -1,5 +1,5 @@
 -- Replies to `explain` are documents that are verified.
-use Rattle.std.proofs.Common.{◌≡◌, ℕ, zero, suc, ◌≤◌, false, List, [], ◌∷◌, length, Option, Some, None, subst, ap, ◌∙◌}
+use Rattle.std.proofs.Common.{◌≡◌, ℕ, zero, suc, ◌≤◌, Bool, false, List, [], ◌∷◌, length, Option, Some, None, subst, ap, ◌∙◌}
 use Rattle.std.specs.Prelude.{slice_get}
 use Rattle.std.proofs.lemmas.List.Elements.{All-nil}
 use Rattle.std.proofs.lemmas.Option.{none-some}
@@ -8,9 +8,9 @@ use Rattle.ct_words.specs.declared.claim.Side.{Side}
 use Rattle.ct_io.specs.Lines.{lines_of}
 use Rattle.ct_text.specs.EntryNumbers.{named_entry}
 use Rattle.ct_text.specs.declared.entry_numbers.EntryNumbers.{EntryNumbers}
-use Rattle.ct_commands.specs.Command.{commands_of}
 use Rattle.ct_commands.specs.declared.command.Command.{Command}
 use Rattle.ct_commands.specs.declared.command.Command.TheVariants as command
+use Rattle.ct_commands.proofs.Inputs.{asked_once}
 use Rattle.ct_commands.proofs.Naming.{AreNamed, commands_of-named}
 use Rattle.ct_fields.specs.declared.document.TheConstants.{MAX_DOCUMENT}
 use Rattle.ct_piece.specs.Piece.{PieceValue}
@@ -21,7 +21,7 @@ use Rattle.ct_verify.specs.declared.verdict.Verdict.TheVariants.{Yes}
 use Rattle.ct_laws.proofs.PrintedDerivations.{printed_is_verified}
 use Rattle.ct_session.specs.Reply.{IsExplainReply, IsReply, pieces_after}
 use Rattle.ct_replies.specs.Refusals.{is_refusal}
-use Rattle.ct_session.specs.Run.{AreReplies}
+use Rattle.ct_session.specs.Run.{AreReplies, IsRun}
 use Rattle.ct_replies.specs.Text.{reply_text}
 use Rattle.ct_replies.specs.declared.reply.Reply.{Reply}
 use Rattle.ct_session.proofs.Existence.{AreStanding-after}
@@ -48,7 +48,8 @@ replies_verified pieces (c ∷ cs) (s ∷ rs) (suc k) side numbers r named stand
     replies_verified (pieces_after pieces c) cs rs k side numbers r named.1 (AreStanding-after pieces c named.0 stand) (pieces_after-short pieces c short) h.1 asked is shows
 
 -- in a run they are over no pieces to begin with
-pub run_verified : (input : List ℕ) (rs : List Reply) (k : ℕ) (side : Side) (numbers : EntryNumbers) (r : Reply) → AreReplies [] (commands_of (lines_of input)) rs
-    → slice_get (commands_of (lines_of input)) k ≡ Some (command.Explain side numbers) → slice_get rs k ≡ Some r → is_refusal r ≡ false → verdict_of (reply_text r) ≡ Yes
-run_verified input rs k side numbers r h =
-    replies_verified [] (commands_of (lines_of input)) rs k side numbers r (commands_of-named (lines_of input)) AreStanding-none (All-nil (λ (q : PieceValue). length q.document ≤ MAX_DOCUMENT)) h
+pub run_verified : (input output : List ℕ) (refused : Bool) (run : IsRun input output refused) (k : ℕ) (side : Side) (numbers : EntryNumbers) (r : Reply)
+    → slice_get run.commands k ≡ Some (command.Explain side numbers) → slice_get run.answers.replies k ≡ Some r → is_refusal r ≡ false → verdict_of (reply_text r) ≡ Yes
+run_verified input output refused run k side numbers r =
+    let named = subst AreNamed (asked_once (command.CutOff ∷ []) (lines_of input) run.commands run.asked) (commands_of-named (lines_of input)) in
+    replies_verified [] run.commands run.answers.replies k side numbers r named AreStanding-none (All-nil (λ (q : PieceValue). length q.document ≤ MAX_DOCUMENT)) run.answers.are

@@ -12,29 +12,18 @@ ghost use Rattle.ct_text.specs.declared.gathering.Extent.{Extent};
 ghost use Rattle.ct_text.specs.declared.gathering.Extent.TheVariants.{ToEnd, Lines};
 ghost use Rattle.ct_commands.specs.Form.{form_of};
 ghost use Rattle.ct_commands.specs.Command.{commands_of};
+ghost use Rattle.ct_commands.specs.Input.{AskFor};
 ghost use Rattle.ct_commands.specs.Submission.{submission_text};
 ghost use Rattle.ct_commands.specs.declared.form.Form.TheVariants.{Nothing, Submit, Whole};
 ghost use Rattle.ct_commands.specs.declared.command.Command.{Command};
 ghost use Rattle.ct_commands.specs.declared.command.Command.TheVariants as command;
 
-/// A submission takes the lines of its document with it, up to the line `end` or so many as it says; where the input has
-/// fewer, it is cut off. The document is its lines, joined by one line feed between two.
-pub fn submissions_take_their_lines()
-    ensures to_end { (line : List ℕ) (id : Option (List ℕ)) (document : List (List ℕ))
-        (end : List ℕ) (rest : List (List ℕ)) → form_of line ≡ Submit id ToEnd
-        → All (λ l. is_end l ≡ false) document → is_end end ≡ true
-        → commands_of (line ∷ document ++ end ∷ rest)
-        ≡ command.Submission id (join_with_byte LINE_FEED document) ∷ commands_of rest }
-    ensures without_end { (line : List ℕ) (id : Option (List ℕ)) (document : List (List ℕ))
-        → form_of line ≡ Submit id ToEnd → All (λ l. is_end l ≡ false) document
-        → commands_of (line ∷ document) ≡ command.CutOff ∷ [] }
-    ensures counted { (line : List ℕ) (id : Option (List ℕ)) (first : List ℕ)
-        (document rest : List (List ℕ)) → form_of line ≡ Submit id (Lines (length document + 1))
-        → commands_of (line ∷ first ∷ document ++ rest)
-        ≡ command.Submission id (join_with_byte LINE_FEED (first ∷ document)) ∷ commands_of rest }
-    ensures too_few { (line : List ℕ) (id : Option (List ℕ)) (document : List (List ℕ)) (more : ℕ)
-        → form_of line ≡ Submit id (Lines (length document + 1 + more))
-        → commands_of (line ∷ document) ≡ command.CutOff ∷ [] }
+/// Lines ask for one list of commands, whatever a submission asks for whose document they cut short; and so do those of an input.
+pub fn lines_ask_for_one_list()
+    ensures some { (last : List Command) (lines : List (List ℕ)) → (commands : List Command) × AskFor last lines commands }
+    ensures one { (last : List Command) (lines : List (List ℕ)) (first second : List Command)
+        → AskFor last lines first → AskFor last lines second → first ≡ second }
+    ensures input { (lines : List (List ℕ)) → AskFor (command.CutOff ∷ []) lines (commands_of lines) }
 {}
 
 /// The text of a submission is one command, the submission of the document under the id, whatever follows.
@@ -42,14 +31,6 @@ pub fn submissions_are_read_as_written()
     ensures { (id document rest : List ℕ) → is_id id ≡ true → line_count document < 2 ^ 64
         → commands_of (lines_of (submission_text id document ++ rest))
         ≡ command.Submission (Some id) document ∷ commands_of (lines_of rest) }
-{}
-
-/// Every other line stands alone: it asks for nothing, or it is a command by itself.
-pub fn other_lines_stand_alone()
-    ensures nothing { (line : List ℕ) (rest : List (List ℕ)) → form_of line ≡ Nothing
-        → commands_of (line ∷ rest) ≡ commands_of rest }
-    ensures whole { (line : List ℕ) (c : Command) (rest : List (List ℕ)) → form_of line ≡ Whole c
-        → commands_of (line ∷ rest) ≡ c ∷ commands_of rest }
 {}
 
 /// Every form of a line, and lines that have one word too many for it, or one too few.

@@ -3,8 +3,7 @@
 ghost use Rattle.std.specs.Prelude.{◌≡◌, ◌≤◌, ◌<◌, ◌+◌, ◌^◌, ◌↔◌, ◌<ℤ◌, pos, ℕ, Bool, List, [], ◌++◌, length, All, Option, Some, None};
 ghost use Rattle.ct_io.specs.Lines.{lines_of, whole_lines};
 ghost use Rattle.ct_io.specs.Told.{WhereTold, IsAboveLimit, IsWithinLimit};
-ghost use Rattle.ct_commands.specs.Command.{completed};
-ghost use Rattle.ct_session.specs.Run.{AnswersCommands};
+ghost use Rattle.ct_session.specs.Run.{AnswersAll};
 ghost use Rattle.ct_session.specs.Serve.{AnswersTaken, AnswersButLastBytes, WritesWholeReplies};
 ghost use Rattle.ct_duals.specs.declared.dual.Dual.{Dual};
 ghost use Rattle.ct_primal.specs.Primal.{PrimalValue};
@@ -26,13 +25,13 @@ pub fn limits_and_told_bytes()
 pub fn what_a_broken_session_leaves()
     ensures after_read_fault { (input held : List ℕ) (left new : Option (List ℕ)) → AnswersTaken (Some input) left (Some held) new
         → (taken rest text : List ℕ) × (refused : Bool) × (left ≡ Some rest) × (input ≡ taken ++ rest)
-        × AnswersCommands [] (completed None (whole_lines taken)) text refused × (new ≡ Some (held ++ text)) }
+        × AnswersAll [] (whole_lines taken) text refused × (new ≡ Some (held ++ text)) }
     ensures after_too_long { (input held : List ℕ) (left new : Option (List ℕ)) → AnswersButLastBytes (Some input) left (Some held) new
         → (front last rest text : List ℕ) × (refused : Bool) × (left ≡ Some rest) × (input ≡ front ++ last ++ rest) × (length last ≤ 65536)
-        × AnswersCommands [] (completed None (whole_lines front)) text refused × (new ≡ Some (held ++ text)) }
+        × AnswersAll [] (whole_lines front) text refused × (new ≡ Some (held ++ text)) }
     ensures after_memory { (input rest held : List ℕ) (new : Option (List ℕ)) → WritesWholeReplies (Some input) (Some rest) (Some held) new
         → (lines others : List (List ℕ)) × (text : List ℕ) × (refused : Bool) × (lines_of input ≡ lines ++ others)
-        × (length others ≤ length (lines_of rest) + 65537) × AnswersCommands [] (completed None lines) text refused × (new ≡ Some (held ++ text)) }
+        × (length others ≤ length (lines_of rest) + 65537) × AnswersAll [] lines text refused × (new ≡ Some (held ++ text)) }
 {}
 
 /// A primal that shows the bound of a dual is of the same mark, and its scale and its numbers are below 2^63.

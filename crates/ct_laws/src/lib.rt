@@ -31,9 +31,8 @@ pub mod worked_builds;
 pub mod worked_cites;
 
 pub use commands::known_forms;
-pub use commands::other_lines_stand_alone;
+pub use commands::lines_ask_for_one_list;
 pub use commands::submissions_are_read_as_written;
-pub use commands::submissions_take_their_lines;
 pub use derivations::best_values_are_true;
 pub use derivations::closed_bounds_are_best;
 pub use derivations::derivations_grow_by_rules;

@@ -5,8 +5,6 @@ ghost use Rattle.ct_words.specs.Claim.{IsTrueClaim};
 ghost use Rattle.ct_words.specs.Code.{CodeValue, IsSoundCode};
 ghost use Rattle.ct_words.specs.declared.claim.Side.{Side};
 ghost use Rattle.ct_words.specs.declared.entry.Entry.{Entry};
-ghost use Rattle.ct_io.specs.Lines.{lines_of};
-ghost use Rattle.ct_commands.specs.Command.{commands_of};
 ghost use Rattle.ct_commands.specs.declared.command.Command.TheVariants as command;
 ghost use Rattle.ct_text.specs.declared.entry_numbers.EntryNumbers.{EntryNumbers};
 ghost use Rattle.ct_derive.specs.Derivation.{DerivationValue};
@@ -60,6 +58,6 @@ pub fn explained_bounds_are_verified()
         → All (λ p. length p.document ≤ MAX_DOCUMENT) pieces → IsReply pieces (command.Explain side numbers) r
         → is_refusal r ≡ false → verdict_of (reply_text r) ≡ Yes }
     ensures run { (input output : List ℕ) (refused : Bool) (answers : IsRun input output refused) (k : ℕ) (side : Side)
-        (numbers : EntryNumbers) (r : Reply) → slice_get (commands_of (lines_of input)) k ≡ Some (command.Explain side numbers)
-        → slice_get answers.replies k ≡ Some r → is_refusal r ≡ false → verdict_of (reply_text r) ≡ Yes }
+        (numbers : EntryNumbers) (r : Reply) → slice_get answers.commands k ≡ Some (command.Explain side numbers)
+        → slice_get answers.answers.replies k ≡ Some r → is_refusal r ≡ false → verdict_of (reply_text r) ≡ Yes }
 {}

@@ -2,11 +2,9 @@
 
 ghost use Rattle.std.specs.Prelude.{◌≡◌, ℕ, Bool, false, List, length, None, Option};
 ghost use Rattle.std.specs.List.{list_any};
-ghost use Rattle.ct_io.specs.Lines.{lines_of};
 ghost use Rattle.ct_text.specs.EntryNumbers.{named_entry};
 ghost use Rattle.ct_text.specs.declared.entry_numbers.EntryNumbers.{EntryNumbers};
 ghost use Rattle.ct_text.specs.declared.table_numbers.TableNumbers.{TableNumbers};
-ghost use Rattle.ct_commands.specs.Command.{commands_of};
 ghost use Rattle.ct_commands.specs.declared.command.Command.TheVariants as command;
 ghost use Rattle.ct_words.specs.declared.claim.Side.{Side};
 ghost use Rattle.ct_words.specs.declared.entry.Entry.{Entry};
@@ -28,13 +26,13 @@ pub fn every_input_has_a_run()
 /// none. Of an input without such commands there is one run: what a session writes for it is determined.
 pub fn runs_differ_in_choices_only()
     ensures replies { (input output other : List ℕ) (a b : Bool) (h : IsRun input output a) (k : IsRun input other b)
-        → DifferInChoices (commands_of (lines_of input)) h.replies k.replies }
+        → DifferInChoices h.commands h.answers.replies k.answers.replies }
     ensures as_many { (input output other : List ℕ) (a b : Bool) (h : IsRun input output a) (k : IsRun input other b)
-        → length h.replies ≡ length k.replies }
+        → length h.answers.replies ≡ length k.answers.replies }
     ensures refused { (input output other : List ℕ) (a b : Bool) → IsRun input output a → IsRun input other b
         → a ≡ b }
-    ensures output { (input output other : List ℕ) (a b : Bool) → list_any leaves_choice (commands_of (lines_of input)) ≡ false
-        → IsRun input output a → IsRun input other b → output ≡ other }
+    ensures output { (input output other : List ℕ) (a b : Bool) (h : IsRun input output a) → list_any leaves_choice h.commands ≡ false
+        → IsRun input other b → output ≡ other }
 {}
 
 /// Submissions, withdrawals, `show`, `table`, `ledger`, `dump`, and lines that are no command, leave no choice of their replies. Nor does

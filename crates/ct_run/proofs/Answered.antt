@@ -1,6 +1,6 @@
 -- What a run over bytes in memory gives.
-use Rattle.std.proofs.Common.{◌≡◌, ◌⊎◌, ◌≤◌, ◌<◌, ◌+◌, ◌↔◌, ℕ, Bool, true, false, List, [], ◌∷◌, ◌++◌, length, Option, Some, None, IfSome, IfNone, IsSome, IsNone, IsTrue, inl, inr, refl, sym, ap, subst, ◌∙◌, arith}
-use Rattle.std.specs.Prelude.{nat_lt}
+use Rattle.std.proofs.Common.{◌≡◌, ◌⊎◌, ◌≤◌, ◌<◌, ◌+◌, ◌↔◌, ℕ, Bool, true, false, List, [], ◌∷◌, ◌++◌, length, Option, Some, None, IfSome, IfNone, IsSome, IsNone, inl, inr, refl, sym, ap, subst, ◌∙◌, arith}
+use Rattle.std.specs.Prelude.{◌≢◌, nat_lt, option_map}
 use Rattle.std.proofs.lemmas.Bool.{ltb-false, ltb-true}
 use Rattle.std.specs.Io.KnownBytes.{IsAtEnd}
 use Rattle.ct_io.specs.declared.TheConstants.{MAX_INPUT}
@@ -9,7 +9,7 @@ use Rattle.ct_command_line.specs.declared.mode.Mode.{Mode}
 use Rattle.ct_command_line.specs.declared.mode.Mode.TheVariants.{Session, Verify, Find, Sample}
 use Rattle.ct_run.specs.declared.status.Status.{Status}
 use Rattle.ct_run.specs.declared.status.Status.TheVariants.{Done, Refused, Usage, ReadFault, WriteFault, TooLong, Memory}
-use Rattle.ct_run.specs.Mode.{is_reading, reads, status_of, IsOutput, IsRunStatus, WritesOutput}
+use Rattle.ct_run.specs.Mode.{reads, status_of, IsOutput, IsRunStatus, WritesOutput}
 use Rattle.ct_run.specs.Exit.{has_failed}
 use Rattle.ct_run.specs.Program.{WritesUsage}
 use Rattle.ct_run.specs.Answer.{IsAnswer, IsWholeOutput}
@@ -18,11 +18,11 @@ use Rattle.ct_run.proofs.Truths.{outputs_are_true}
 -- what a run says of an input, of what is left of it, and of what a sink holds before and after it
 pub record Says (named : Option Mode) (input left held output : List ℕ) (result : Status) : Type 0 where
   pub run : IfSome named (λ mode. IsRunStatus result → WritesOutput mode (Some input) (Some held) (Some output) result)
-  pub to_end : IsTrue (is_reading named) → IsRunStatus result → IsAtEnd (Some left)
+  pub to_end : option_map reads named ≡ Some true → IsRunStatus result → IsAtEnd (Some left)
   pub too_long : (result ≡ TooLong) ↔ IsAboveLimit input left
   pub no_command : IfNone named (WritesUsage result (Some held) (Some output))
   pub usage_only_then : result ≡ Usage → IsNone named
-  pub unread : is_reading named ≡ false → left ≡ input
+  pub unread : option_map reads named ≢ Some true → left ≡ input
 
 used : (input output : List ℕ) (result : Status) → WritesUsage result (Some []) (Some output) → has_failed result ≡ false → IsAnswer None input output result
 used input output Done h well = absurd h
@@ -78,14 +78,14 @@ too_long mode input left output true is says =
     inl (record { read = is; long = omega (arith, above) }, refl)
 too_long mode input left output false is says =
     let above = says.too_long.0 refl in
-    let same : length left ≡ length input = ap (λ (xs : List ℕ). length xs) (says.unread is) in
+    let same : length left ≡ length input = ap (λ (xs : List ℕ). length xs) (says.unread (λ e. cc)) in
     absurd (omega (arith, above, same))
 
 ran_well : (mode : Mode) (input left output : List ℕ) (result : Status) → Says (Some mode) input left [] output result → IsRunStatus result → IsAnswer (Some mode) input output result
 ran_well mode input left output result says done =
     inr
     (whole mode input output result
-    (λ reading. within input left result (says.to_end (subst IsTrue (sym reading) refl) done) says.too_long (no_long result done)) (says.run done))
+    (λ reading. within input left result (says.to_end (ap Some reading) done) says.too_long (no_long result done)) (says.run done))
 
 ran : (mode : Mode) (input left output : List ℕ) (result : Status) → Says (Some mode) input left [] output result → has_failed result ≡ false → IsAnswer (Some mode) input output result
 ran mode input left output Done says well = ran_well mode input left output Done says (inl refl)

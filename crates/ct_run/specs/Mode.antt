@@ -20,11 +20,6 @@ reads Verify = true
 reads Find = true
 reads (Sample number) = false
 
--- whether a command reads the source: words that name no mode don't
-abbrev pub is_reading : Option Mode → Bool
-is_reading (Some mode) = reads mode
-is_reading None = false
-
 -- an output of a mode on an input, and whether something is refused in it: in a session and in `find` a reply, in `verify` the document, in `sample`
 -- nothing
 abbrev pub IsOutput : Mode → List ℕ → List ℕ → Bool → Type 0

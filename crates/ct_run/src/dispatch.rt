@@ -1,11 +1,11 @@
 //! The top call of the program.
 
-ghost use Rattle.std.specs.Prelude.{◌≡◌, ◌⊎◌, ◌≤◌, ◌+◌, ◌↔◌, ℕ, [], ◌∷◌, codes, IfSome, IfNone, IfOk, IfErr, IsSome, IsNone, IsTrue, Some, false, length};
+ghost use Rattle.std.specs.Prelude.{◌≡◌, ◌≢◌, ◌⊎◌, ◌≤◌, ◌+◌, ◌↔◌, ℕ, [], ◌∷◌, codes, IfSome, IfNone, IfOk, IfErr, IsSome, IsNone, Some, true, false, option_map, length};
 ghost use Rattle.std.specs.Io.KnownBytes.{Appends, IsAtEnd};
 ghost use Rattle.ct_io.specs.Faults.{Rose};
 ghost use Rattle.ct_io.specs.Told.{AppendsProperPrefix, WhereTold, IsAboveLimit, IsWithinLimit};
 ghost use Rattle.ct_io.specs.declared.TheConstants.{MAX_INPUT, MAX_READ};
-ghost use Rattle.ct_run.specs.Mode.{reads, is_reading, input_for, status_of, IsRunStatus, WritesOutput, WritesPrefix, WritesProperPrefix, LeftByMemory, LeftByReadFault, LeftByTooLong};
+ghost use Rattle.ct_run.specs.Mode.{reads, input_for, status_of, IsRunStatus, WritesOutput, WritesPrefix, WritesProperPrefix, LeftByMemory, LeftByReadFault, LeftByTooLong};
 ghost use Rattle.ct_command_line.specs.CommandLine.{mode_of, bytes_of};
 ghost use Rattle.ct_session.specs.Truth.{IsTrueAnswer, AreAnswers};
 ghost use Rattle.ct_session.specs.TrueLines.{IsTrueReason};
@@ -108,7 +108,7 @@ pub fn run<S: Source, K: Sink>(
     // Done and Refused: what was written is an output of the mode, and a mode that reads the source read it to its end.
     ensures run { IfSome (mode_of (bytes_of words.now)) (λ mode. IsRunStatus result
         → WritesOutput mode (S.left source.old) (K.holds sink.old) (K.holds sink.new) result) }
-    ensures to_end { IsTrue (is_reading (mode_of (bytes_of words.now))) → IsRunStatus result → IsAtEnd (S.left source.new) }
+    ensures to_end { option_map reads (mode_of (bytes_of words.now)) ≡ Some true → IsRunStatus result → IsAtEnd (S.left source.new) }
     ensures command { IsRunStatus result → IsSome (mode_of (bytes_of words.now)) }
 
     // What it says of codes is true: of a session the bounds and the codes in its replies, and the lines of its explanations; the claims of a document
@@ -150,8 +150,8 @@ pub fn run<S: Source, K: Sink>(
     ensures no_command { IfNone (mode_of (bytes_of words.now)) (WritesUsage result (K.holds sink.old) (K.holds sink.new)) }
     ensures usage_only_then { result ≡ Status.Usage → IsNone (mode_of (bytes_of words.now)) }
 
-    // Where the words are no command, or one whose mode reads nothing, nothing is read.
-    ensures unread { is_reading (mode_of (bytes_of words.now)) ≡ false → source.new ≡ source.old }
+    // Unless the words name a mode that reads, nothing is read.
+    ensures unread { option_map reads (mode_of (bytes_of words.now)) ≢ Some true → source.new ≡ source.old }
 
     // Completeness: within the limit and without faults, a run ends so, but for want of memory.
     ensures complete { IfSome (mode_of (bytes_of words.now)) (λ mode. IsWithinLimit (input_for mode (S.left source.old))

@@ -37,6 +37,7 @@ use Rattle.ct_replies.specs.Text.{reply_text, ledger_text, listed_text}
 use Rattle.ct_replies.specs.declared.reply.Reply.{Reply}
 use Rattle.ct_replies.specs.declared.reply.Reply.TheVariants.{Shown, Table, Lines, Refused}
 use Rattle.ct_replies.specs.declared.reply.Refusal.TheVariants as refusal
+use Rattle.ct_session.proofs.Asked.{answers_all}
 use Rattle.ct_session.proofs.BoundLemmas.{shown, some_bounds, some_bounds_of_all, column_entries}
 
 -- the pieces after a command stand, where those before it do
@@ -136,4 +137,6 @@ some_answers pieces cs named h =
 
 -- every input has a run
 pub some_run : (input : List ℕ) → (output : List ℕ) × (refused : Bool) × IsRun input output refused
-some_run input = some_answers [] (commands_of (lines_of input)) (commands_of-named (lines_of input)) AreStanding-none
+some_run input =
+    let some = some_answers [] (commands_of (lines_of input)) (commands_of-named (lines_of input)) AreStanding-none in
+    (some.0, some.1, answers_all _ (lines_of input) some.0 some.1 some.2)

@@ -1,3 +1,4 @@
+pub mod Asked
 pub mod BoundLemmas
 pub mod Answering
 pub mod Existence

@@ -18,12 +18,13 @@ use Rattle.ct_io.proofs.ReaderLemmas.{Takes-line, Takes-within}
 use Rattle.ct_io.specs.Buffered.{Buffered, Puts, Stops}
 use Rattle.ct_io.proofs.BufferedLemmas.{after_all}
 use Rattle.ct_io.specs.Told.{WhereTold, IsAboveLimit, AppendsProperPrefix}
-use Rattle.ct_commands.specs.Command.{completed, commands_of, cut_off}
-use Rattle.ct_session.specs.Run.{AnswersCommands, IsRun, PutsAnswers}
+use Rattle.ct_commands.specs.Command.{commands_of, cut_off}
+use Rattle.ct_session.specs.Run.{AnswersCommands, AnswersAll, IsRun, PutsAnswers}
 use Rattle.ct_session.specs.Serve.{WritesRun, WritesRunPrefix, WritesRunProperPrefix, AnswersLines, AnswersTaken, AnswersButLastBytes, WritesWholeReplies}
 use Rattle.ct_session.specs.Inside.Serving.{Devices, Follows, LeavesFew, Took, Given, Serves, unserved}
 use Rattle.ct_session.specs.Inside.State.{State, fresh_state, TakesLines}
 use Rattle.ct_session.specs.Inside.Writing.{IsReady}
+use Rattle.ct_session.proofs.Asked.{answers_all, whole_answered}
 use Rattle.ct_session.proofs.Taking.{takes_none, takes_more, whole_run, prefix_written, proper_prefix_written}
 
 -- ---- the bytes that were taken
@@ -271,7 +272,8 @@ run_answers (Some other) None s lines text more b h follows at k input e = absur
 run_answers (Some other) (Some bytes) s lines text more b h follows at k input e =
     let same : other ≡ input = cc in
     subst (λ (i : List ℕ). IsRun i (text ++ more) (s.refused || b)) same
-    (subst (λ (ls : List (List ℕ)). AnswersCommands [] (commands_of ls) (text ++ more) (s.refused || b)) (sym (all_lines other bytes lines follows at)) (whole_run s lines text more b h k))
+    (answers_all _ (lines_of other) (text ++ more) (s.refused || b)
+    (subst (λ (ls : List (List ℕ)). AnswersCommands [] (commands_of ls) (text ++ more) (s.refused || b)) (sym (all_lines other bytes lines follows at)) (whole_run s lines text more b h k)))
 
 -- the whole run was written
 run_written : (left now old new : Option (List ℕ)) (s : State) (lines : List (List ℕ)) (text more : List ℕ) (all b : Bool) → TakesLines fresh_state s lines text → Follows left now lines → IsAtEnd now
@@ -330,7 +332,7 @@ taken_now r q left now next lines fault h takes = record {
 lines_answered : (s : State) (lines : List (List ℕ)) (text tail : List ℕ) (old held : Option (List ℕ)) → TakesLines fresh_state s lines text → All IsLine lines → IsLine tail → Appends old held text
     → AnswersLines (ended_lines lines ++ tail) old held
 lines_answered s lines text tail old held h whole line wrote =
-    (text, h.refused, subst (λ (ls : List (List ℕ)). AnswersCommands [] (completed None ls) text h.refused) (sym (whole_lines-ended lines tail whole line)) h.answers, wrote)
+    (text, h.refused, subst (λ (ls : List (List ℕ)). AnswersAll [] ls text h.refused) (sym (whole_lines-ended lines tail whole line)) (whole_answered lines text h.refused h.answers), wrote)
 
 answers_taken : (left next old held : Option (List ℕ)) (s : State) (lines : List (List ℕ)) (text tail : List ℕ) → Given left next lines tail → TakesLines fresh_state s lines text → IsLine tail → Appends old held text
     → AnswersTaken left next old held
@@ -366,7 +368,7 @@ last_bytes_unanswered r q s b n next fault h none takes part lasts going =
 replies_written : (left now next old new : Option (List ℕ)) (s : State) (lines : List (List ℕ)) (text : List ℕ) → TakesLines fresh_state s lines text → Follows left now lines → LeavesFew now next → Appends old new text → WritesWholeReplies left next old new
 replies_written None now next old new s lines text h follows few wrote = tt
 replies_written (Some input) None next old new s lines text h follows few wrote = absurd follows
-replies_written (Some input) (Some rest) next old new s lines text h follows few wrote = (lines, lines_of rest, text, h.refused, follows, few, h.answers, wrote)
+replies_written (Some input) (Some rest) next old new s lines text h follows few wrote = (lines, lines_of rest, text, h.refused, follows, few, whole_answered lines text h.refused h.answers, wrote)
 
 pub whole_replies : (r : Reader) (s : State) (b n : Devices) (next new : Option (List ℕ)) → Serves r s b n
     → LeavesFew (input_of r n.left) next → Appends n.sink.held new n.sink.gathered → WritesWholeReplies b.left next b.sink.held new

@@ -16,6 +16,7 @@ use Rattle.ct_session.specs.Run.{AnswersCommands, IsRun}
 use Rattle.ct_session.specs.Serve.{WritesRunPrefix, WritesRunProperPrefix}
 use Rattle.ct_session.specs.Inside.Serving.{Follows}
 use Rattle.ct_session.specs.Inside.State.{State, fresh_state, TakesLines}
+use Rattle.ct_session.proofs.Asked.{answers_all}
 use Rattle.ct_session.proofs.Answering.{append_answers}
 use Rattle.ct_session.proofs.Existence.{AreStanding-fold, some_answers}
 
@@ -108,7 +109,7 @@ prefix_written None now old new s lines text front back h follows parts written 
 prefix_written (Some input) None old new s lines text front back h follows parts written = absurd follows
 prefix_written (Some input) (Some bytes) old new s lines text front back h follows parts written =
     let on = goes_on s lines (lines_of bytes) text h in
-    let run : IsRun input (text ++ on.0) on.1 = subst (λ (ls : List (List ℕ)). AnswersCommands [] (commands_of ls) (text ++ on.0) on.1) (sym follows) on.2 in
+    let run : IsRun input (text ++ on.0) on.1 = answers_all _ (lines_of input) (text ++ on.0) on.1 (subst (λ (ls : List (List ℕ)). AnswersCommands [] (commands_of ls) (text ++ on.0) on.1) (sym follows) on.2) in
     (text ++ on.0, on.1, run, (front, back ++ on.0, ap (λ (t : List ℕ). t ++ on.0) parts ∙ append_assoc front back on.0, written))
 
 -- and some of them is left
@@ -118,5 +119,5 @@ proper_prefix_written None now old new s lines text front back h follows parts s
 proper_prefix_written (Some input) None old new s lines text front back h follows parts some written = absurd follows
 proper_prefix_written (Some input) (Some bytes) old new s lines text front back h follows parts some written =
     let on = goes_on s lines (lines_of bytes) text h in
-    let run : IsRun input (text ++ on.0) on.1 = subst (λ (ls : List (List ℕ)). AnswersCommands [] (commands_of ls) (text ++ on.0) on.1) (sym follows) on.2 in
+    let run : IsRun input (text ++ on.0) on.1 = answers_all _ (lines_of input) (text ++ on.0) on.1 (subst (λ (ls : List (List ℕ)). AnswersCommands [] (commands_of ls) (text ++ on.0) on.1) (sym follows) on.2) in
     (text ++ on.0, on.1, run, (front, back ++ on.0, ap (λ (t : List ℕ). t ++ on.0) parts ∙ append_assoc front back on.0, left_over back on.0 some, written))

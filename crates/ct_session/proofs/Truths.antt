@@ -9,9 +9,9 @@ use Rattle.ct_words.specs.Code.{IsCodeOf, IsTrueLower, IsTrueUpper}
 use Rattle.ct_words.specs.TableEntries.{column}
 use Rattle.ct_io.specs.Lines.{lines_of}
 use Rattle.ct_text.specs.EntryNumbers.{named_entry}
-use Rattle.ct_commands.specs.Command.{commands_of}
 use Rattle.ct_commands.specs.declared.command.Command.{Command}
 use Rattle.ct_commands.specs.declared.command.Command.TheVariants as command
+use Rattle.ct_commands.proofs.Inputs.{asked_once}
 use Rattle.ct_commands.proofs.Naming.{AreNamed, commands_of-named}
 use Rattle.ct_piece.specs.Piece.{PieceValue}
 use Rattle.ct_piece.specs.declared.fault.WithdrawFault.{WithdrawFault}
@@ -167,6 +167,6 @@ pub run_answers : (IsRight : Command → List ℕ → Type 0)
     (right : (pieces : List PieceValue) (c : Command) (r : Reply) → AreStanding pieces → IsReply pieces c r → IsRight c (reply_text r))
     (input output : List ℕ) (refused : Bool) → IsRun input output refused → AreAnswers IsRight input output
 run_answers IsRight right input output refused run =
-    let lines = lines_of input in
-    let (answers, each, text) = answers_of IsRight right [] (commands_of lines) run.replies (commands_of-named lines) AreStanding-none run.are in
-    record { answers = answers; each = each; spelled = run.texts ∙ text }
+    let named = subst AreNamed (asked_once (command.CutOff ∷ []) (lines_of input) run.commands run.asked) (commands_of-named (lines_of input)) in
+    let (answers, each, text) = answers_of IsRight right [] run.commands run.answers.replies named AreStanding-none run.answers.are in
+    record { commands = run.commands; asked = run.asked; answers = answers; each = each; spelled = run.answers.texts ∙ text }

@@ -3,7 +3,9 @@ use Rattle.std.specs.Prelude.{◌≡◌, ℕ, ⊤, Bool, false, List, [], ◌∷
 use Rattle.std.specs.List.{flat_map, list_any}
 use Rattle.ct_io.specs.Lines.{lines_of}
 use Rattle.ct_commands.specs.Command.{commands_of}
+use Rattle.ct_commands.specs.Input.{AskFor}
 use Rattle.ct_commands.specs.declared.command.Command.{Command}
+use Rattle.ct_commands.specs.declared.command.Command.TheVariants as command
 use Rattle.ct_piece.specs.Piece.{PieceValue}
 use Rattle.ct_session.specs.Reply.{IsReply, leaves_choice, pieces_after}
 use Rattle.ct_replies.specs.Refusals.{is_refusal}
@@ -34,9 +36,15 @@ pub record AnswersCommands (pieces : List PieceValue) (commands : List Command) 
 abbrev pub PutsAnswers : List PieceValue → List Command → Bool → List ℕ → List ℕ → Type 0
 PutsAnswers pieces commands refused before after = (text : List ℕ) × AnswersCommands pieces commands text refused × (after ≡ before ++ text)
 
--- a run of the session on an input: the output answers its commands, over no pieces to begin with; it is refused where a reply is a refusal
+-- the text answers the commands that the lines ask for, over no pieces to begin with; a submission whose document they cut short asks for `last`
+pub record AnswersAll (last : List Command) (lines : List (List ℕ)) (text : List ℕ) (refused : Bool) : Type 0 where
+  pub commands : List Command
+  pub asked : AskFor last lines commands
+  pub answers : AnswersCommands [] commands text refused
+
+-- a run of the session on an input: the output answers its commands, where a submission that is cut short is a command to be refused. The mark says whether a reply is a refusal
 abbrev pub IsRun : List ℕ → List ℕ → Bool → Type 0
-IsRun input output refused = AnswersCommands [] (commands_of (lines_of input)) output refused
+IsRun input output refused = AnswersAll (command.CutOff ∷ []) (lines_of input) output refused
 
 -- the pieces that stand after the commands of an input
 abbrev pub pieces_of : List ℕ → List PieceValue

@@ -4,8 +4,7 @@ use Rattle.std.specs.Io.KnownBytes.{Appends, Consumes}
 use Rattle.ct_io.specs.Lines.{lines_of, whole_lines}
 use Rattle.ct_io.specs.declared.TheConstants.{MAX_READ}
 use Rattle.ct_io.specs.Told.{AppendsPrefix, AppendsProperPrefix}
-use Rattle.ct_commands.specs.Command.{completed}
-use Rattle.ct_session.specs.Run.{AnswersCommands, IsRun}
+use Rattle.ct_session.specs.Run.{AnswersAll, IsRun}
 
 -- what a sink holds grew by the output of a run on what the source had left
 abbrev pub WritesRun : Option (List ℕ) → Option (List ℕ) → Option (List ℕ) → Bool → Type 0
@@ -24,7 +23,7 @@ WritesRunProperPrefix (Some input) old new = (output : List ℕ) × (refused : B
 
 -- what a sink holds grew by the replies to the commands that the whole lines of these bytes complete
 abbrev pub AnswersLines : List ℕ → Option (List ℕ) → Option (List ℕ) → Type 0
-AnswersLines bytes old new = (text : List ℕ) × (refused : Bool) × AnswersCommands [] (completed None (whole_lines bytes)) text refused × Appends old new text
+AnswersLines bytes old new = (text : List ℕ) × (refused : Bool) × AnswersAll [] (whole_lines bytes) text refused × Appends old new text
 
 -- the bytes that were taken from the source were answered: the replies are those to the commands that their whole lines complete
 abbrev pub AnswersTaken : Option (List ℕ) → Option (List ℕ) → Option (List ℕ) → Option (List ℕ) → Type 0
@@ -49,4 +48,4 @@ abbrev pub WritesWholeReplies : Option (List ℕ) → Option (List ℕ) → Opti
 WritesWholeReplies None after old new = ⊤
 WritesWholeReplies (Some input) after old new =
     (lines rest : List (List ℕ)) × (text : List ℕ) × (refused : Bool) × (lines_of input ≡ lines ++ rest) × AreFewMore rest after
-    × AnswersCommands [] (completed None lines) text refused × Appends old new text
+    × AnswersAll [] lines text refused × Appends old new text

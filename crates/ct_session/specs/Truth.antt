@@ -7,7 +7,7 @@ use Rattle.ct_words.specs.Code.{IsCodeOf, IsTrueLower, IsTrueUpper}
 use Rattle.ct_words.specs.TableEntries.{column}
 use Rattle.ct_io.specs.Lines.{lines_of}
 use Rattle.ct_text.specs.EntryNumbers.{named_entry}
-use Rattle.ct_commands.specs.Command.{commands_of}
+use Rattle.ct_commands.specs.Input.{AskFor}
 use Rattle.ct_commands.specs.declared.command.Command.{Command}
 use Rattle.ct_commands.specs.declared.command.Command.TheVariants as command
 use Rattle.ct_replies.specs.Text.{ended, bounds_text, code_text}
@@ -65,6 +65,8 @@ IsTrueAnswer other text = AreWholeLines text
 
 -- the output is answers to the commands of the input, one to each, in order; each is as the relation says
 pub record AreAnswers (IsRight : Command → List ℕ → Type 0) (input output : List ℕ) : Type 0 where
+  pub commands : List Command
+  pub asked : AskFor (command.CutOff ∷ []) (lines_of input) commands
   pub answers : List (List ℕ)
-  pub each : AllZip IsRight (commands_of (lines_of input)) answers
+  pub each : AllZip IsRight commands answers
   pub spelled : output ≡ flat_map (λ answer. answer) answers

@@ -1,5 +1,6 @@
 -- The text of a document whose lines follow a heading: up to a line `end`, or so many lines.
-use Rattle.std.specs.Prelude.{ℕ, suc, ◌-◌, Bool, ◌||◌, if◌then◌else◌, List, [], ◌∷◌, ◌++◌, length, take, codes}
+use Rattle.std.specs.Prelude.{◌≡◌, ◌<◌, ℕ, suc, ◌-◌, Bool, true, false, ◌||◌, if◌then◌else◌, List, [], ◌∷◌, ◌++◌, All, length, take, codes}
+use Rattle.std.specs.List.{join_with_byte}
 use Rattle.std.specs.Str.{bytes_eq}
 use Rattle.ct_text.specs.declared.document_lines.TheConstants.{LINE_FEED}
 use Rattle.ct_text.specs.declared.gathering.Extent.{Extent}
@@ -11,6 +12,17 @@ use Rattle.ct_text.specs.declared.gathering.Gathered.TheVariants.{More, Whole}
 -- the line that ends a document: `end`, or `end` and one carriage return (13)
 abbrev pub is_end : List ℕ → Bool
 is_end line = bytes_eq line (codes "end") || bytes_eq line (codes "end" ++ 13 ∷ [])
+
+-- the lines are a document with its end, and the text is the document: all lines but the last one, which is `end` and the only such line; or so many lines
+abbrev pub IsDocument : Extent → List (List ℕ) → List ℕ → Type 0
+IsDocument ToEnd block text =
+    (lines : List (List ℕ)) × (last : List ℕ) × (block ≡ lines ++ last ∷ []) × All (λ line. is_end line ≡ false) lines × (is_end last ≡ true) × (text ≡ join_with_byte LINE_FEED lines)
+IsDocument (Lines count) block text = (length block ≡ count) × (text ≡ join_with_byte LINE_FEED block)
+
+-- the lines are no whole document: none of them is `end`, or they are fewer than so many
+abbrev pub IsCutShort : Extent → List (List ℕ) → Type 0
+IsCutShort ToEnd block = All (λ line. is_end line ≡ false) block
+IsCutShort (Lines count) block = length block < count
 
 -- a text without its last byte
 abbrev pub less_last : List ℕ → List ℕ

@@ -34,19 +34,20 @@ use Rattle.ct_rules.proofs.JoinedDerivations.{derived_by_rule}
 use Rattle.ct_session.specs.Reply.{AreBoundsOf}
 use Rattle.ct_laws.specs.Examples.{six_words_document, linear_code_document}
 use Rattle.ct_laws.proofs.EqualBounds.{equal_bounds}
+use Rattle.ct_session.proofs.Asked.{answers_all}
 use Rattle.ct_laws.proofs.laws.known_submissions.Goals as goal
 
 pub returns-clause-close : goal.returns-clause-close
 unfolding form_of words_of number_of reply_text digits submitted code_fault distance evidence_on_literals
-returns-clause-close c = record { replies = Refused (refusal.Submission (submit.Code (fault.Close 0 1 5))) ∷ []; are = (refl, tt); texts = refl; mark = refl }
+returns-clause-close c = answers_all _ _ _ _ (record { replies = Refused (refusal.Submission (submit.Code (fault.Close 0 1 5))) ∷ []; are = (refl, tt); texts = refl; mark = refl })
 
 pub returns-clause-repeated : goal.returns-clause-repeated
 unfolding form_of words_of number_of reply_text digits submitted code_fault distance evidence_on_literals
-returns-clause-repeated c = record { replies = Refused (refusal.Submission (submit.Code (fault.Repeated 0 1))) ∷ []; are = (refl, tt); texts = refl; mark = refl }
+returns-clause-repeated c = answers_all _ _ _ _ (record { replies = Refused (refusal.Submission (submit.Code (fault.Repeated 0 1))) ∷ []; are = (refl, tt); texts = refl; mark = refl })
 
 pub returns-clause-empty : goal.returns-clause-empty
 unfolding form_of words_of number_of reply_text digits submitted code_fault distance evidence_on_literals
-returns-clause-empty c = record { replies = Refused (refusal.Submission (submit.File (file.Size 0))) ∷ []; are = (refl, tt); texts = refl; mark = refl }
+returns-clause-empty c = answers_all _ _ _ _ (record { replies = Refused (refusal.Submission (submit.File (file.Size 0))) ∷ []; are = (refl, tt); texts = refl; mark = refl })
 
 abbrev entry : Entry
 entry = record { n = 10; d = 6; w = None }
@@ -73,20 +74,20 @@ six_at_ten =
 
 pub returns-clause-accepted : goal.returns-clause-accepted
 unfolding form_of words_of number_of reply_text digits submitted code_fault distance evidence_on_literals
-returns-clause-accepted c = record {
+returns-clause-accepted c = answers_all _ _ _ _ (record {
   replies = Accepted (codes "hexa") (Some 6) ∷ Shown (record { entry = entry; lower = 6; upper = 6 }) ∷ [];
   are = (refl, (record { bounds = record { entry = entry; lower = 6; upper = 6 }; of_entry = six_at_ten; shown = refl }, tt));
   texts = refl;
   mark = refl;
-}
+})
 
 pub returns-clause-choices : goal.returns-clause-choices
 unfolding form_of words_of number_of reply_text digits submitted coset_fault coset_list distance evidence_on_literals
-returns-clause-choices c = record { replies = Refused (refusal.Submission (submit.Code (fault.Close 0 3 2))) ∷ []; are = (refl, tt); texts = refl; mark = refl }
+returns-clause-choices c = answers_all _ _ _ _ (record { replies = Refused (refusal.Submission (submit.Code (fault.Close 0 3 2))) ∷ []; are = (refl, tt); texts = refl; mark = refl })
 
 pub returns-clause-weight : goal.returns-clause-weight
 unfolding form_of words_of number_of reply_text digits submitted code_fault weight distance evidence_on_literals
-returns-clause-weight c = record { replies = Refused (refusal.Submission (submit.Code (fault.Weight 2))) ∷ []; are = (refl, tt); texts = refl; mark = refl }
+returns-clause-weight c = answers_all _ _ _ _ (record { replies = Refused (refusal.Submission (submit.Code (fault.Weight 2))) ∷ []; are = (refl, tt); texts = refl; mark = refl })
 
 abbrev short_entry : Entry
 short_entry = record { n = 6; d = 3; w = None }
@@ -119,18 +120,18 @@ eight_at_six =
 
 pub returns-clause-linear : goal.returns-clause-linear
 unfolding form_of words_of number_of reply_text digits submitted coset_fault coset_list distance evidence_on_literals
-returns-clause-linear c = record {
+returns-clause-linear c = answers_all _ _ _ _ (record {
   replies = Accepted (codes "linear") (Some 8) ∷ Shown (record { entry = short_entry; lower = 8; upper = 8 }) ∷ [];
   are = (refl, (record { bounds = record { entry = short_entry; lower = 8; upper = 8 }; of_entry = eight_at_six; shown = refl }, tt));
   texts = refl;
   mark = refl;
-}
+})
 
 pub returns-clause-with_all : goal.returns-clause-with_all
 unfolding form_of words_of number_of reply_text digits submitted code_fault distance evidence_on_literals withdrawn_all build_fault early_fault few_fault sizes_fault result_size built step_distance other_of is_right_other is_right_weight gives_weight is_right_length ascending
-returns-clause-with_all c = record {
+returns-clause-with_all c = answers_all _ _ _ _ (record {
   replies = Accepted (codes "a") (Some 2) ∷ Accepted (codes "b") (Some 2) ∷ WithdrawnAll (codes "a") 2 ∷ Lines (ledger_text []) ∷ [];
   are = (refl, (refl, (refl, (refl, tt))));
   texts = refl;
   mark = refl;
-}
+})

@@ -6,4 +6,4 @@ pub returns-clause-reply : goal.returns-clause-reply
 returns-clause-reply c = λ pieces side numbers r stand short h shows. reply_verified pieces side (named_entry numbers) r stand short h shows
 
 pub returns-clause-run : goal.returns-clause-run
-returns-clause-run c = λ input output refused run k side numbers r asked is shows. run_verified input run.replies k side numbers r run.are asked is shows
+returns-clause-run c = run_verified

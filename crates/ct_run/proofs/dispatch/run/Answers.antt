@@ -1,6 +1,7 @@
-use Rattle.std.proofs.Common.{◌≡◌, Some, None, refl, sym, ap, ◌∙◌}
+use Rattle.std.proofs.Common.{◌≡◌, ◌≢◌, Bool, true, false, Some, None, refl, sym, ap, ◌∙◌}
+use Rattle.std.specs.Prelude.{option_map}
 use Rattle.ct_command_line.specs.CommandLine.{mode_of, bytes_of}
-use Rattle.ct_run.specs.Mode.{is_reading}
+use Rattle.ct_run.specs.Mode.{reads}
 use Rattle.ct_run.proofs.Statuses.{named_so}
 use Rattle.ct_run.proofs.Usage.{usage_ran}
 use Rattle.ct_command_line.proofs.ModeLemmas.{session_named}
@@ -13,6 +14,10 @@ use Rattle.ct_session.specs.TrueLines.{IsTrueReason}
 use Rattle.ct_command_line.specs.declared.mode.Mode.TheVariants.{Session, Verify, Find, Sample}
 use Rattle.ct_run.proofs.NothingWritten.{want_ran}
 use Rattle.ct_run.proofs.dispatch.run.Goals as goal
+
+not_reading : (b : Bool) → Some b ≢ Some true → b ≡ false
+not_reading true h = absurd (h refl)
+not_reading false h = refl
 
 pub returns-in-Ok-Some : goal.returns-in-Ok-Some
 returns-in-Ok-Some g c =
@@ -38,7 +43,7 @@ returns-in-Ok-Some g c =
       one_read_past = ran.one_read_past;
       no_command = ran.no_command;
       usage_only_then = ran.usage_only_then;
-      unread = λ e. c.run_mode.ensures.unread (sym (ap is_reading is) ∙ e);
+      unread = λ other. c.run_mode.ensures.unread (not_reading (reads c.in-Ok-Some.mode) (λ e. other (ap (option_map reads) is ∙ e)));
       complete = ran.complete;
     }
 
@@ -66,7 +71,7 @@ returns-in-Ok-None g c =
       one_read_past = ran.one_read_past;
       no_command = ran.no_command;
       usage_only_then = ran.usage_only_then;
-      unread = λ e. refl;
+      unread = λ other. refl;
       complete = ran.complete;
     }
 
@@ -93,6 +98,6 @@ returns-in-Err g c =
       one_read_past = ran.one_read_past;
       no_command = ran.no_command;
       usage_only_then = ran.usage_only_then;
-      unread = λ e. refl;
+      unread = λ other. refl;
       complete = ran.complete;
     }
