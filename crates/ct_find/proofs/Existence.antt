@@ -1,4 +1,7 @@
 -- Each input has an output: documents of duals that are found, proposals, and replies.
+use Rattle.ct_finder.specs.Inside.Rows.{multipliers_of}
+use Rattle.ct_find.specs.Inside.Replies.{IsReplyToEntry, IsReplyToNumbers, IsReplyToWords}
+use Rattle.ct_find.specs.Inside.Texts.{dual_evidence}
 use Rattle.std.proofs.Common.{◌≡◌, ℕ, suc, ◌≤◌, ◌^◌, Bool, true, false, List, [], ◌∷◌, ◌++◌, codes, length, replicate, All, Option, Some, None, Ok, IfSome, refl, ap, ◌∙◌, arith}
 use Rattle.std.specs.Prelude.{ℤ, pos, negsuc, ◌≤ℤ◌, ◌<ℤ◌, ◌||◌, FitsSigned}
 use Rattle.std.specs.Int.{w64}
@@ -27,13 +30,13 @@ use Rattle.ct_fields.proofs.TextLengths.{document_length}
 use Rattle.ct_dual_files.specs.WrittenDuals.{dual_table, johnson_dual_table}
 use Rattle.ct_duals.specs.Dual.{degree_of}
 use Rattle.ct_words.specs.Numbers.{numbers_of}
-use Rattle.ct_finder.specs.Run.{End, columns_of, multipliers_of, run_dual, ones_dual}
+use Rattle.ct_finder.specs.Run.{End, run_dual, ones_dual}
 use Rattle.ct_finder.specs.Run.End.{Least as LeastEnd, Turns as TurnsEnd, Wide as WideEnd}
 use Rattle.ct_finder.proofs.RunDuals.{dual-form, least-of, narrow-of}
 use Rattle.ct_finder.proofs.Ones.{ones-form}
-use Rattle.ct_finder.specs.Column.{Tableau}
-use Rattle.ct_finder.specs.Found.{bound_of_dual, dual_of, IsShown}
-use Rattle.ct_finder.proofs.FoundLemmas.{asked-weighted}
+use Rattle.ct_finder.specs.Column.{Tableau, columns, range_of}
+use Rattle.ct_finder.specs.Found.{bound_without_allowances, dual_at_end, IsShown}
+use Rattle.ct_finder.proofs.FoundLemmas.{plain_dual, asked-weighted}
 use Rattle.ct_find.proofs.FoundDuals.{plain_shown, weighted_shown}
 use Rattle.ct_io.specs.Lines.{lines_of}
 use Rattle.ct_text.specs.declared.document_lines.TheConstants.{LINE_FEED}
@@ -41,9 +44,9 @@ use Rattle.ct_text.specs.Line.{words_of}
 use Rattle.ct_text.specs.EntryNumbers.{entry_numbers_of, named_entry}
 use Rattle.ct_text.specs.declared.entry_numbers.EntryNumbers.{EntryNumbers}
 use Rattle.ct_find.specs.declared.found.TheConstants.{MAX_PIVOTS}
-use Rattle.ct_find.specs.Proposal.{is_even, run_for, dual_at_end, found_dual, stop_for, dual_evidence, comments, find_id, IsProposal, AnswersEntry}
+use Rattle.ct_find.specs.Proposal.{is_even, run_for, found_dual, stop_for, comments, find_id, IsProposal, AnswersEntry}
 use Rattle.ct_commands.specs.Submission.{submission_text}
-use Rattle.ct_find.specs.Reply.{IsReplyToEntry, IsReplyToNumbers, IsReplyToWords, AreFoundReplies, IsFound}
+use Rattle.ct_find.specs.Reply.{AreFoundReplies, IsFound}
 use Rattle.ct_find.proofs.EntryLemmas.{named-is_entry}
 use Rattle.ct_find.proofs.FoundLemmas.{plain-asked}
 use Rattle.ct_find.proofs.PlainTables.{numbers, number, mark, word, ArePlain, small, plain_text}
@@ -172,19 +175,19 @@ weighted_document n d w c form =
 
 -- each dual with a document that is shown has an answer
 answer_of : (e : Entry) (d : Dual) → IsShown (stop_for e) d → (document : List ℕ) × (document_read_of document ≡ Ok (without_cites (dual_evidence d.entry.w d)))
-    → (text : List ℕ) × (IsProposal e d (bound_of_dual d) (stop_for e) text × IsShown (stop_for e) d)
-answer_of e d shown (document, reads) = (comments (bound_of_dual d) (stop_for e) ++ submission_text (find_id e) document, ((document, reads, refl), shown))
+    → (text : List ℕ) × (IsProposal e d (bound_without_allowances d) (stop_for e) text × IsShown (stop_for e) d)
+answer_of e d shown (document, reads) = (comments (bound_without_allowances d) (stop_for e) ++ submission_text (find_id e) document, ((document, reads, refl), shown))
 
 plain_answer : (n d : ℕ) → IsEntry (unrestricted n d) → (end : End) → run_for (unrestricted n d) ≡ end
-    → IsShown (stop_for (unrestricted n d)) (dual_of (unrestricted n d) (is_even None d) end)
-    → (text : List ℕ) × AnswersEntry (unrestricted n d) (dual_at_end None (unrestricted n d) end) text
+    → IsShown (stop_for (unrestricted n d)) (plain_dual (unrestricted n d) (is_even None d) end)
+    → (text : List ℕ) × AnswersEntry (unrestricted n d) (dual_at_end (unrestricted n d) (is_even None d) end) text
 unfolding run_for
 plain_answer n d entry (LeastEnd t) is shown =
     let e = unrestricted n d in
     let even = is_even None d in
     let form = dual-form (numbers_of e) e even t (plain-asked n d entry) (least-of (numbers_of e) e even MAX_PIVOTS t is)
     (narrow-of (numbers_of e) e even MAX_PIVOTS t is) in
-    answer_of e (run_dual e even t.cost) shown (plain_document n d even (multipliers_of (columns_of e even) (degree_of e) t.cost) form)
+    answer_of e (run_dual e even t.cost) shown (plain_document n d even (multipliers_of (columns (range_of e even) (degree_of e)) (degree_of e) t.cost) form)
 plain_answer n d entry TurnsEnd is shown =
     let even = is_even None d in
     answer_of (unrestricted n d) (ones_dual (unrestricted n d) even) shown (plain_document n d even (replicate (suc n) (pos 1)) (ones-form n d even (plain-asked n d entry)))
@@ -194,13 +197,13 @@ plain_answer n d entry (WideEnd x) is shown =
 
 weighted_answer : (n d w : ℕ) → IsEntry (constant_weight n d w) → (end : End) → run_for (constant_weight n d w) ≡ end
     → ((t : Tableau) → end ≡ LeastEnd t → IsShown (stop_for (constant_weight n d w)) (run_dual (constant_weight n d w) false t.cost))
-    → (text : List ℕ) × AnswersEntry (constant_weight n d w) (dual_at_end (Some w) (constant_weight n d w) end) text
+    → (text : List ℕ) × AnswersEntry (constant_weight n d w) (dual_at_end (constant_weight n d w) false end) text
 unfolding run_for
 weighted_answer n d w entry (LeastEnd t) is shown =
     let e = constant_weight n d w in
     let form = dual-form (numbers_of e) e false t (asked-weighted n d w entry) (least-of (numbers_of e) e false MAX_PIVOTS t is)
     (narrow-of (numbers_of e) e false MAX_PIVOTS t is) in
-    answer_of e (run_dual e false t.cost) (shown t refl) (weighted_document n d w (multipliers_of (columns_of e false) (degree_of e) t.cost) form)
+    answer_of e (run_dual e false t.cost) (shown t refl) (weighted_document n d w (multipliers_of (columns (range_of e false) (degree_of e)) (degree_of e) t.cost) form)
 weighted_answer n d w entry TurnsEnd is shown = (codes "none" ++ LINE_FEED ∷ [], refl)
 weighted_answer n d w entry (WideEnd x) is shown = (codes "none" ++ LINE_FEED ∷ [], refl)
 

@@ -1,4 +1,5 @@
 -- What is found is true.
+use Rattle.ct_find.specs.Inside.Replies.{IsReplyToEntry, IsReplyToNumbers, IsReplyToWords}
 use Rattle.std.proofs.Common.{◌≡◌, ◌⊎◌, ℕ, Bool, true, false, cond, List, [], ◌∷◌, ◌++◌, Option, Some, None, IfSome, inl, inr, refl, ap, ◌∙◌}
 use Rattle.std.specs.Prelude.{codes}
 use Rattle.std.specs.List.{AllZip, flat_map}
@@ -10,10 +11,10 @@ use Rattle.ct_text.specs.Line.{words_of}
 use Rattle.ct_text.specs.EntryNumbers.{entry_numbers_of, named_entry}
 use Rattle.ct_text.specs.declared.entry_numbers.EntryNumbers.{EntryNumbers}
 use Rattle.ct_duals.specs.declared.dual.Dual.{Dual}
-use Rattle.ct_finder.specs.Found.{bound_of_dual}
+use Rattle.ct_finder.specs.Found.{bound_without_allowances}
 use Rattle.ct_finder.proofs.FoundLemmas.{stop-least}
 use Rattle.ct_find.specs.Proposal.{AnswersEntry, found_dual, stop_for}
-use Rattle.ct_find.specs.Reply.{IsReplyToEntry, IsReplyToNumbers, IsReplyToWords, AreFoundReplies, IsFound}
+use Rattle.ct_find.specs.Reply.{AreFoundReplies, IsFound}
 use Rattle.ct_find.specs.Truth.{IsTrueProposal, IsTrueReply, AreTrueReplies}
 use Rattle.ct_find.proofs.FoundDuals.{found, bound-true}
 
@@ -25,7 +26,7 @@ true_proposal e (Some d) text entry is answers =
     inr
     (record {
       dual = d;
-      bound = bound_of_dual d;
+      bound = bound_without_allowances d;
       stop = stop_for e;
       proposal = answers.0;
       entry = dual.entry;

@@ -1,3 +1,4 @@
 pub mod Proposal
 pub mod Reply
 pub mod Truth
+pub mod Inside

@@ -4,32 +4,25 @@ use Rattle.std.specs.Io.KnownBytes.{Appends}
 use Rattle.ct_io.specs.Told.{AppendsProperPrefix}
 use Rattle.ct_io.specs.Lines.{lines_of}
 use Rattle.ct_text.specs.declared.document_lines.TheConstants.{LINE_FEED}
-use Rattle.ct_words.specs.declared.entry.Entry.{Entry}
 use Rattle.ct_text.specs.Line.{words_of}
 use Rattle.ct_text.specs.EntryNumbers.{entry_numbers_of, named_entry}
-use Rattle.ct_text.specs.declared.entry_numbers.EntryNumbers.{EntryNumbers}
 use Rattle.ct_files.specs.Document.{document_read_of}
 use Rattle.ct_commands.specs.Submission.{submission_text}
 use Rattle.ct_find.specs.Proposal.{AnswersEntry, found_dual}
 
--- the reply to numbers that name this entry of the table, or none, and whether it is a refusal
-abbrev pub IsReplyToEntry : Option Entry → List ℕ → Bool → Type 0
-IsReplyToEntry None text refused = (text ≡ codes "refused entry" ++ LINE_FEED ∷ []) × (refused ≡ true)
-IsReplyToEntry (Some e) text refused = AnswersEntry e (found_dual e) text × (refused ≡ false)
-
--- the reply to words that are these numbers, or others
-abbrev pub IsReplyToNumbers : Option EntryNumbers → List ℕ → Bool → Type 0
-IsReplyToNumbers None text refused = (text ≡ codes "refused command" ++ LINE_FEED ∷ []) × (refused ≡ true)
-IsReplyToNumbers (Some numbers) text refused = IsReplyToEntry (named_entry numbers) text refused
-
--- the reply to the words of a line: nothing where there are none
-abbrev pub IsReplyToWords : List (List ℕ) → List ℕ → Bool → Type 0
-IsReplyToWords [] text refused = (text ≡ []) × (refused ≡ false)
-IsReplyToWords (word ∷ words) text refused = IsReplyToNumbers (entry_numbers_of (word ∷ words)) text refused
-
--- the reply to a line
+-- the reply to a line, and whether it is a refusal: nothing to a line without words, and the answer to one that names an entry of the table
 abbrev pub IsFoundReply : List ℕ → List ℕ → Bool → Type 0
-IsFoundReply line text refused = IsReplyToWords (words_of line) text refused
+IsFoundReply line text refused =
+    elim (words_of line) [
+      | [] ↦ (text ≡ []) × (refused ≡ false)
+      | word ∷ words ↦ elim (entry_numbers_of (word ∷ words)) [
+        | None ↦ (text ≡ codes "refused command" ++ LINE_FEED ∷ []) × (refused ≡ true)
+        | Some numbers ↦ elim (named_entry numbers) [
+          | None ↦ (text ≡ codes "refused entry" ++ LINE_FEED ∷ []) × (refused ≡ true)
+          | Some e ↦ AnswersEntry e (found_dual e) text × (refused ≡ false)
+        ]
+      ]
+    ]
 
 -- the replies to lines, in order, and whether one of them is a refusal
 abbrev pub AreFoundReplies : List (List ℕ) → List ℕ → Bool → Type 0

@@ -1,9 +1,11 @@
 //! The dual that is proposed for an entry.
 
-ghost use Rattle.std.specs.Prelude.{◌≡◌, None, IfOk, IfSome, option_map};
+ghost use Rattle.ct_words.specs.Numbers.{numbers_of};
+ghost use Rattle.ct_finder.specs.Run.{run_of};
+ghost use Rattle.std.specs.Prelude.{◌≡◌, None, Some, IfOk, IfSome, option_map};
 ghost use Rattle.ct_words.specs.Entry.{IsEntry, unrestricted};
 ghost use Rattle.ct_duals.specs.Dual.{IsDual};
-ghost use Rattle.ct_finder.specs.Found.{bound_of_dual, dual_of, end_of_run, stop_of, IsShown};
+ghost use Rattle.ct_finder.specs.Found.{bound_without_allowances, dual_at_end, stop_of, IsShown};
 ghost use Rattle.ct_find.specs.Proposal.{is_even, found_dual, stop_for};
 
 use ct_finder::{Found, find, find_weight};
@@ -16,11 +18,11 @@ pub const MAX_PIVOTS: u32 = 20_000;
 /// The dual that the finder gives for A(n,d), with at most `MAX_PIVOTS` pivots; of even distances alone where d is even.
 fn plain_found_for(alloc: Global, n: u32, d: u32) -> Result<Found, AllocError>
     requires { IsEntry (unrestricted n d) }
-    ensures dual { IfOk result (λ f. f.dual ≡
-        dual_of (unrestricted n d) (is_even None d) (end_of_run (unrestricted n d) (is_even None d) MAX_PIVOTS)) }
-    ensures bound { IfOk result (λ f. f.bound ≡ bound_of_dual f.dual) }
+    ensures dual { IfOk result (λ f. Some f.dual ≡
+        dual_at_end (unrestricted n d) (is_even None d) (run_of (numbers_of (unrestricted n d)) (unrestricted n d) (is_even None d) MAX_PIVOTS)) }
+    ensures bound { IfOk result (λ f. f.bound ≡ bound_without_allowances f.dual) }
     ensures stop { IfOk result (λ f. f.stop ≡
-        stop_of (unrestricted n d) (is_even None d) MAX_PIVOTS (end_of_run (unrestricted n d) (is_even None d) MAX_PIVOTS)) }
+        stop_of (unrestricted n d) (is_even None d) MAX_PIVOTS (run_of (numbers_of (unrestricted n d)) (unrestricted n d) (is_even None d) MAX_PIVOTS)) }
     ensures shown { IfOk result (λ f. IsShown f.stop f.dual) }
     ensures form { IfOk result (λ f. IsDual f.dual) }
     ensures of_entry { IfOk result (λ f. f.dual.entry ≡ unrestricted n d) }
@@ -33,7 +35,7 @@ fn plain_found_for(alloc: Global, n: u32, d: u32) -> Result<Found, AllocError>
 pub(crate) fn found_for(alloc: Global, entry: Entry) -> Result<Option<Found>, AllocError>
     requires { IsEntry entry }
     ensures dual { IfOk result (λ o. option_map (λ f. f.dual) o ≡ found_dual entry) }
-    ensures bound { IfOk result (λ o. IfSome o (λ f. f.bound ≡ bound_of_dual f.dual)) }
+    ensures bound { IfOk result (λ o. IfSome o (λ f. f.bound ≡ bound_without_allowances f.dual)) }
     ensures stop { IfOk result (λ o. IfSome o (λ f. f.stop ≡ stop_for entry)) }
     ensures shown { IfOk result (λ o. IfSome o (λ f. IsShown f.stop f.dual)) }
     ensures form { IfOk result (λ o. IfSome o (λ f. IsDual f.dual)) }

@@ -1,10 +1,11 @@
 //! The text of a dual that is proposed.
 
+ghost use Rattle.ct_find.specs.Inside.Texts.{bound_line, dual_evidence, pair_text, pairs_text, weight_part};
 ghost use Rattle.std.specs.Prelude.{◌≡◌, ◌++◌, [], codes, IfOk, OnOk};
 ghost use Rattle.ct_words.specs.Entry.{IsEntry};
 ghost use Rattle.ct_duals.specs.Dual.{IsDual};
 ghost use Rattle.ct_files.specs.Evidence.{IsSound};
-ghost use Rattle.ct_find.specs.Proposal.{bound_line, comments, dual_evidence, find_id, found_dual, pair_text, pairs_text, primal_line, stop_text, weight_part, AnswersEntry, IsProposal};
+ghost use Rattle.ct_find.specs.Proposal.{comments, find_id, found_dual, primal_line, stop_text, AnswersEntry, IsProposal};
 
 use crate::found::found_for;
 use ct_commands::put_submission;

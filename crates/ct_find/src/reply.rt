@@ -1,9 +1,10 @@
 //! The replies to lines.
 
+ghost use Rattle.ct_find.specs.Inside.Replies.{IsReplyToEntry, IsReplyToNumbers, IsReplyToWords};
 ghost use Rattle.std.specs.Prelude.{◌≡◌, ◌++◌, ◌||◌, false, true, map, IfOk, OnOk, IfSome};
 ghost use Rattle.ct_words.specs.Entry.{IsEntry};
 ghost use Rattle.ct_io.specs.Lines.{lines_of};
-ghost use Rattle.ct_find.specs.Reply.{AreFoundReplies, IsFoundReply, IsReplyToEntry, IsReplyToNumbers, IsReplyToWords};
+ghost use Rattle.ct_find.specs.Reply.{AreFoundReplies, IsFoundReply};
 
 use crate::proposal::{answer_entry, owned};
 use ct_io::next_line;

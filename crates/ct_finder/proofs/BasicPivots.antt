@@ -1,4 +1,5 @@
 -- A pivot keeps that what solves the rows solves the opening rows, and that each row has its basic column to itself.
+use Rattle.ct_finder.specs.Inside.Pivot.{is_unbeaten}
 use Rattle.std.proofs.Common.{◌≡◌, ◌≢◌, ℕ, zero, suc, ◌+◌, ◌<◌, ◌≤◌, ◌==◌, Bool, true, false, ◌&&◌, not, List, [], map, length, get_or, refl, sym, ap, ap₂, ◌∙◌, arith, subst, eqb-true}
 use Rattle.std.specs.Prelude.{zip, ℤ, pos, negsuc, neg_ℤ, ◌-ℤ◌, ◌*ℤ◌, ◌≤ℤ◌, int_lt, int_le, nat_lt, ◌||◌, Some}
 use Rattle.std.proofs.lemmas.Int.{ints}
@@ -11,7 +12,7 @@ use Rattle.std.proofs.lemmas.Slice.Zip.{length-zip, get_or-zip}
 use Rattle.ct_words.proofs.Counting.Products.{int_mul_comm, int_neg_mul}
 use Rattle.ct_words.proofs.Counting.Combinations.{product-nonneg}
 use Rattle.ct_finder.specs.Column.{Tableau}
-use Rattle.ct_finder.specs.Pivot.{at, constant_of, is_candidate, comes_before, is_unbeaten, pivot_row, pivoted_row, pivoted}
+use Rattle.ct_finder.specs.Pivot.{at, constant_of, is_candidate, comes_before, pivot_row, pivoted_row, pivoted}
 use Rattle.ct_finder.specs.Sum.{HasWidth}
 use Rattle.ct_finder.specs.Basic.{worth, row_at, basic_at, Solves, AreBasic}
 use Rattle.ct_finder.proofs.Crossed.{int_cancel, positive-mul, positive-from}

@@ -1,14 +1,15 @@
 -- What is kept through a run beside sums: what solves its rows solves the opening rows, and each row has its basic column to itself.
+use Rattle.ct_finder.specs.Inside.Rows.{rows_to}
 use Rattle.std.proofs.Common.{◌≡◌, ℕ, suc, ◌+◌, ◌<◌, ◌≤◌, ◌==◌, cond, List, [], length, refl, sym, ap, ap₂, ◌∙◌, arith, subst, eq-eqb}
 use Rattle.std.specs.Prelude.{ℤ, pos, ◌≤ℤ◌}
 use Rattle.std.proofs.lemmas.Int.{ints}
 use Rattle.std.proofs.lemmas.Bool.{ne_eqb}
 use Rattle.std.proofs.lemmas.List.{length-map}
 use Rattle.std.proofs.lemmas.List.FromFn.{length-range_with_len, get_or-map-range_with_len}
-use Rattle.ct_finder.specs.Column.{Tableau, rows_to, columns, place_of, opening_entry, opening_row, cost_entry, opening}
+use Rattle.ct_finder.specs.Column.{Tableau, columns, place_of_column, opening_entry, cost_entry, opening}
 use Rattle.ct_finder.specs.Column.Column.{S}
 use Rattle.ct_finder.specs.Pivot.{at, constant_of}
-use Rattle.ct_finder.specs.Sum.{after}
+use Rattle.ct_finder.specs.Sum.{after, opening_row}
 use Rattle.ct_finder.specs.Basic.{row_at, basic_at, Solves, AreBasic}
 use Rattle.ct_finder.proofs.TurnedTableaus.{IsKept, pivot_row-is, kept-opening, kept-pivoted}
 use Rattle.ct_finder.proofs.BasicPivots.{solves-back, basic-pivoted}
@@ -22,7 +23,7 @@ opening-row_at number range degree k within = get_or-map-range_with_len (opening
 
 opening-basic_at : (number : ℕ → ℕ → ℤ) (range : List ℕ) (degree k : ℕ) → k < degree → basic_at (opening number range degree) k ≡ suc (length range + k)
 opening-basic_at number range degree k within =
-    get_or-map-range_with_len (λ j. place_of (S j) (columns range degree)) 1 degree k (suc k) 0 within (omega arith)
+    get_or-map-range_with_len (λ j. place_of_column (S j) (columns range degree)) 1 degree k (suc k) 0 within (omega arith)
     ∙ place-s range degree (suc k) (omega arith) (omega arith) ∙ omega arith
 
 -- the entry of an opening row at a basic column
@@ -43,7 +44,7 @@ basic-opening number range degree some =
     let rows = rows-opening number range degree in
     let width = length-columns range degree in
     record {
-      count = length-map (rows_to degree) (λ k. place_of (S k) (columns range degree)) ∙ sym (length-map (rows_to degree) (opening_row number (columns range degree)));
+      count = length-map (rows_to degree) (λ k. place_of_column (S k) (columns range degree)) ∙ sym (length-map (rows_to degree) (opening_row number (columns range degree)));
       choices = λ k l. let place = opening-basic_at number range degree k (omega arith) in (omega arith, omega arith);
       constants = λ k l. subst (λ z. pos 0 ≤ℤ z) (sym (ap constant_of (opening-row_at number range degree k (omega arith)) ∙ opening-constant number range degree (suc k)))
           (some (suc k) (omega arith));

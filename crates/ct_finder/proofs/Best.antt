@@ -9,8 +9,8 @@ use Rattle.std.proofs.lemmas.List.Folds.{list_all_at}
 use Rattle.std.proofs.lemmas.List.{get_or_default}
 use Rattle.std.proofs.lemmas.List.Elements.{All-from_get_or}
 use Rattle.std.proofs.lemmas.Slice.Zip.{get_or-zip}
-use Rattle.ct_finder.specs.Pivot.{at, constant_of, is_candidate, comes_before, is_unbeaten}
-use Rattle.ct_finder.specs.Inside.Pivot.{line_at, is_better}
+use Rattle.ct_finder.specs.Pivot.{at, constant_of, is_candidate, comes_before}
+use Rattle.ct_finder.specs.Inside.Pivot.{line_at, is_better, is_unbeaten}
 use Rattle.ct_finder.proofs.Before.{precedes-cotransitive, precedes-asymmetric, precedes-irreflexive}
 
 candidate-positive : (e : ℕ) (l : List ℤ × ℕ) → is_candidate e l ≡ true → pos 1 ≤ℤ at l.0 e

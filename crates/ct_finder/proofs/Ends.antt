@@ -7,9 +7,11 @@ use Rattle.std.proofs.lemmas.Bool.{ltb-false}
 use Rattle.std.proofs.lemmas.Option.{none-some}
 use Rattle.ct_finder.specs.Column.{Column, Tableau, same_column, is_choice}
 use Rattle.ct_finder.specs.Pivot.{entering, pivot_row, pivoted, first_wide}
-use Rattle.ct_finder.specs.Run.{Step, unless_wide, pivoted_at, step_at, step, last_end, run, coefficient}
-use Rattle.ct_finder.specs.Run.End.{Least}
-use Rattle.ct_finder.specs.Run.Step.{ended, goes}
+use Rattle.ct_finder.specs.Run.{run, coefficient}
+use Rattle.ct_finder.specs.Run.End.{Least, Turns}
+use Rattle.ct_finder.specs.Inside.Step.{Step, unless_wide, pivoted_at, step_at, step}
+use Rattle.ct_finder.specs.Inside.Step.Step.{ended, goes}
+use Rattle.ct_finder.proofs.Steps.{run_on, run-step}
 use Rattle.ct_finder.specs.Sum.{next_at, next_from, after}
 use Rattle.ct_finder.proofs.Entries.{same_column-is}
 use Rattle.ct_finder.proofs.TurnedTableaus.{IsKept, kept-pivoted}
@@ -43,7 +45,8 @@ pub record IsEnd (P : Tableau → Type 0) (cs : List Column) (last : Tableau) : 
   pub kept : P last
   pub none : entering cs last.cost ≡ None
 
-end-last : (P : Tableau → Type 0) (cs : List Column) (o : Option ℕ) (t last : Tableau) → entering cs t.cost ≡ o → P t → last_end o t ≡ Least last → IsEnd P cs last
+end-last : (P : Tableau → Type 0) (cs : List Column) (o : Option ℕ) (t last : Tableau) → entering cs t.cost ≡ o → P t
+    → elim o [ None ↦ Least t | Some e ↦ Turns ] ≡ Least last → IsEnd P cs last
 end-last P cs None t last was holds is =
     let same : t ≡ last = cc in
     subst (IsEnd P cs) same (record { kept = holds; none = was })
@@ -67,10 +70,10 @@ end-step_at P cs (Some e) t last was holds is = absurd (least-pivoted_at e (pivo
 pub end-of_run : (P : Tableau → Type 0) (cs : List Column) → KeepsNarrow cs P → (n : ℕ) (t last : Tableau) → P t → run cs n t ≡ Least last → IsEnd P cs last
 end-of_run P cs keeps zero t last holds is = end-last P cs (entering cs t.cost) t last refl holds is
 end-of_run P cs keeps (suc n) t last holds is =
-    go (step cs t) refl (λ next goes_on. end-of_run P cs keeps n next last (on-step_at P cs keeps (entering cs t.cost) t next refl holds goes_on)) is
+    go (step cs t) refl (λ next goes_on. end-of_run P cs keeps n next last (on-step_at P cs keeps (entering cs t.cost) t next refl holds goes_on)) (sym (run-step cs n t) ∙ is)
   where
     go : (s : Step) → step cs t ≡ s → ((next : Tableau) → step cs t ≡ goes next → run cs n next ≡ Least last → IsEnd P cs last)
-        → elim s [ ended e ↦ e | goes next ↦ run cs n next ] ≡ Least last → IsEnd P cs last
+        → run_on cs n s ≡ Least last → IsEnd P cs last
     go (ended e) was later is = end-step_at P cs (entering cs t.cost) t last refl holds (was ∙ ap ended is)
     go (goes next) was later is = later next was is
 

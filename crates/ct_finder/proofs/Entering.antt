@@ -1,4 +1,5 @@
 -- The entering column, place by place.
+use Rattle.ct_finder.specs.Inside.Rows.{rows_to}
 use Rattle.std.proofs.Common.{◌≡◌, ℕ, zero, suc, ◌+◌, ◌<◌, ◌≤◌, Bool, true, false, ◌&&◌, cond, List, [], ◌∷◌, ◌++◌, map, length, get_or, refl, sym, ap, ap₂, ◌∙◌, arith, append_assoc, length-append, inl, inr}
 use Rattle.std.specs.Prelude.{zip, ℤ, pos, int_lt, Some, None, position}
 use Rattle.std.specs.List.{All, position_or_len}
@@ -8,7 +9,7 @@ use Rattle.std.proofs.lemmas.List.Elements.{All-append, All-map, All-get_or}
 use Rattle.std.proofs.lemmas.List.Sums.{position_or_len_is}
 use Rattle.std.proofs.lemmas.Slice.Zip.{length-zip, get_or-zip}
 use Rattle.std.proofs.Math.Seq.{get_or-append_seam}
-use Rattle.ct_finder.specs.Column.{Column, is_choice, rows_to, columns}
+use Rattle.ct_finder.specs.Column.{Column, is_choice, columns}
 use Rattle.ct_finder.specs.Column.Column.{Z, A, S, Constant}
 use Rattle.ct_finder.specs.Pivot.{entering}
 

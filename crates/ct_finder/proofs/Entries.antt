@@ -1,11 +1,12 @@
 -- Entries of rows at their columns.
+use Rattle.ct_finder.specs.Inside.Rows.{rows_to}
 use Rattle.std.proofs.Common.{◌≡◌, ℕ, zero, suc, ◌+◌, ◌<◌, ◌≤◌, ◌==◌, Bool, true, false, cond, ◌||◌, List, [], ◌∷◌, ◌++◌, map, length, refl, sym, ap, ◌∙◌, arith, eqb-true}
 use Rattle.std.specs.Prelude.{ℤ, pos, ◌-ℤ◌, ◌*ℤ◌, int_div, unsigned_abs}
 use Rattle.std.specs.List.{AllByRecursion, range_with_len, list_any}
 use Rattle.std.specs.Int.{◌∣◌}
 use Rattle.std.proofs.lemmas.Int.{ints}
 use Rattle.std.proofs.lemmas.Bool.{eqb-false}
-use Rattle.ct_finder.specs.Column.{Column, same_column, rows_to, columns}
+use Rattle.ct_finder.specs.Column.{Column, same_column, columns}
 use Rattle.ct_finder.specs.Column.Column.{Z, A, S, Constant}
 use Rattle.ct_finder.specs.Divisor.{divisor, reduced}
 use Rattle.ct_finder.specs.Pivot.{crossed}

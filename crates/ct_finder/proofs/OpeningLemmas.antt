@@ -1,4 +1,5 @@
 -- The opening tableau, piece by piece.
+use Rattle.ct_finder.specs.Inside.Rows.{rows_to}
 use Rattle.std.proofs.Common.{◌≡◌, ℕ, suc, ◌+◌, ◌≤◌, ◌==◌, Bool, true, false, cond, List, [], ◌∷◌, ◌++◌, map, length, replicate, refl, sym, ap, ap₂, ◌∙◌, arith, subst, append_assoc}
 use Rattle.std.specs.Prelude.{ℤ, pos, negsuc, neg_ℤ, ◌≤ℤ◌, All}
 use Rattle.std.specs.List.{range_with_len}
@@ -10,10 +11,10 @@ use Rattle.std.proofs.lemmas.List.FromFn.{length-range_with_len}
 use Rattle.ct_words.specs.declared.entry.Entry.{Entry}
 use Rattle.ct_words.specs.Scheme.{IsSmall}
 use Rattle.ct_duals.specs.Dual.{degree_of, is_in_range}
-use Rattle.ct_finder.specs.Column.{Column, Tableau as TableauOf, range_of, rows_to, columns, opening_entry, cost_entry, opening_row, opening}
+use Rattle.ct_finder.specs.Column.{Column, Tableau as TableauOf, range_of, columns, opening_entry, cost_entry, opening}
 use Rattle.ct_finder.specs.Column.Column.{Z, A, S, Constant}
 use Rattle.ct_finder.specs.Pivot.{is_wide}
-use Rattle.ct_finder.specs.Sum.{HasWidth}
+use Rattle.ct_finder.specs.Sum.{HasWidth, opening_row}
 use Rattle.ct_finder.proofs.Sums.{All-range}
 use Rattle.ct_finder.specs.Run.{run}
 use Rattle.ct_finder.specs.Run.End.{Least}

@@ -1,11 +1,12 @@
 -- The entries of a row at the s's.
+use Rattle.ct_finder.specs.Inside.Rows.{rows_to, multipliers_of}
 use Rattle.std.proofs.Common.{◌≡◌, ℕ, zero, suc, ◌+◌, ◌-◌, ◌<◌, ◌≤◌, ◌==◌, length-drop, cond, List, [], ◌∷◌, ◌++◌, map, length, take, drop, get_or, take_all, refl, sym, ap, ap₂, ◌∙◌, arith, eq-eqb}
 use Rattle.std.specs.Prelude.{ℤ, pos}
 use Rattle.std.specs.List.{range_with_len}
 use Rattle.std.proofs.lemmas.Bool.{ne_eqb}
-use Rattle.ct_finder.specs.Column.{Column, rows_to, columns}
+use Rattle.ct_finder.specs.Column.{Column, columns}
 use Rattle.ct_finder.specs.Column.Column.{A, S, Constant}
-use Rattle.ct_finder.specs.Run.{coefficient, multipliers_of}
+use Rattle.ct_finder.specs.Run.{coefficient}
 use Rattle.ct_finder.proofs.Places.{length-columns}
 
 -- a row without entries

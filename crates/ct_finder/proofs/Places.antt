@@ -1,4 +1,6 @@
 -- The places of the columns, and the entries of the opening rows there.
+use Rattle.ct_finder.specs.Sum.{opening_row}
+use Rattle.ct_finder.specs.Inside.Rows.{rows_to}
 use Rattle.std.proofs.Common.{◌≡◌, ℕ, zero, suc, ◌+◌, ◌-◌, ◌<◌, ◌≤◌, ◌==◌, Bool, true, false, ◌&&◌, not, cond, List, [], ◌∷◌, ◌++◌, map, length, get_or, refl, sym, ap, ◌∙◌, arith, eqb-true, append_assoc}
 use Rattle.std.specs.Prelude.{zip, ℤ, pos, int_lt, Some}
 use Rattle.std.specs.List.{range_with_len}
@@ -7,7 +9,7 @@ use Rattle.std.proofs.lemmas.List.{length-map, length-append, get_or-map, get_or
 use Rattle.std.proofs.lemmas.List.FromFn.{length-range_with_len, get_or-map-range_with_len}
 use Rattle.std.proofs.lemmas.List.Quantifiers.{position-Some}
 use Rattle.std.proofs.lemmas.Slice.Zip.{length-zip, get_or-zip}
-use Rattle.ct_finder.specs.Column.{Column, is_choice, rows_to, columns, place_of, opening_entry, opening_row, cost_entry}
+use Rattle.ct_finder.specs.Column.{Column, is_choice, columns, place_of_column, opening_entry, cost_entry}
 use Rattle.ct_finder.specs.Column.Column.{Z, A, S, Constant}
 use Rattle.ct_finder.specs.Pivot.{at, constant_of, entering}
 
@@ -22,22 +24,22 @@ length-columns range degree =
     omega arith
 
 -- past the a's
-place-past_a : (k : ℕ) (range : List ℕ) (rest : List Column) → place_of (S k) (map A range ++ rest) ≡ length range + place_of (S k) rest
+place-past_a : (k : ℕ) (range : List ℕ) (rest : List Column) → place_of_column (S k) (map A range ++ rest) ≡ length range + place_of_column (S k) rest
 place-past_a k [] rest = omega arith
 place-past_a k (i ∷ range) rest = let ih = place-past_a k range rest in omega arith
 
 -- among the s's
-place-among_s : (k a n : ℕ) (rest : List Column) → a ≤ k → k < a + n → a + place_of (S k) (map S (range_with_len a n) ++ rest) ≡ k
+place-among_s : (k a n : ℕ) (rest : List Column) → a ≤ k → k < a + n → a + place_of_column (S k) (map S (range_with_len a n) ++ rest) ≡ k
 place-among_s k a zero rest low high = absurd (omega arith)
 place-among_s k a (suc n) rest low high = go (a == k) refl (place-among_s k (a + 1) n rest)
   where
-    go : (t : Bool) → (a == k) ≡ t → (a + 1 ≤ k → k < a + 1 + n → a + 1 + place_of (S k) (map S (range_with_len (a + 1) n) ++ rest) ≡ k)
-        → a + cond (not t) (1 + place_of (S k) (map S (range_with_len (a + 1) n) ++ rest)) 0 ≡ k
+    go : (t : Bool) → (a == k) ≡ t → (a + 1 ≤ k → k < a + 1 + n → a + 1 + place_of_column (S k) (map S (range_with_len (a + 1) n) ++ rest) ≡ k)
+        → a + cond (not t) (1 + place_of_column (S k) (map S (range_with_len (a + 1) n) ++ rest)) 0 ≡ k
     go true is ih = let same = eqb-true a k is in omega arith
     go false is ih = let later = ih (omega (arith, eqb-false a k is)) (omega arith) in omega arith
 
 -- the place of an s
-pub place-s : (range : List ℕ) (degree k : ℕ) → 1 ≤ k → k ≤ degree → place_of (S k) (columns range degree) ≡ length range + k
+pub place-s : (range : List ℕ) (degree k : ℕ) → 1 ≤ k → k ≤ degree → place_of_column (S k) (columns range degree) ≡ length range + k
 place-s range degree k low high =
     let past = place-past_a k range (map S (rows_to degree) ++ Constant ∷ []) in
     let among = place-among_s k 1 degree (Constant ∷ []) low (omega arith) in

@@ -1,6 +1,7 @@
 -- The primal of a tableau, read row by row.
+use Rattle.ct_finder.specs.Inside.Numbers.{numbers_of_range, is_of_a}
 use Rattle.std.proofs.Common.{◌≡◌, ℕ, zero, suc, ◌+◌, ◌-◌, ◌*◌, ◌/◌, ◌<◌, ◌≤◌, ◌^◌, ◌==◌, Bool, true, false, ◌&&◌, cond, nat_le, List, [], ◌∷◌, ◌++◌, map, length, get_or, take, refl, sym, ap, ap₂, ◌∙◌, arith, subst, eqb-true, mul-le-mul_right}
-use Rattle.std.specs.Prelude.{All, filter, find, zip, ℤ, pos, ◌<ℤ◌, int_lt, Option, Some, None, option_map}
+use Rattle.std.specs.Prelude.{All, filter, find, zip, ℤ, pos, ◌<ℤ◌, int_lt, Option, Some, None, option_map, fold}
 use Rattle.std.specs.List.{AllByRecursion, range_with_len}
 use Rattle.std.proofs.lemmas.Bool.{false≢true, le-leb}
 use Rattle.std.proofs.lemmas.Int.{ints}
@@ -20,7 +21,7 @@ use Rattle.ct_duals.specs.Bound.{natural}
 use Rattle.ct_finder.specs.Column.{Tableau}
 use Rattle.ct_finder.specs.Divisor.{gcd}
 use Rattle.ct_finder.specs.Pivot.{at, constant_of, is_wide}
-use Rattle.ct_finder.specs.RunPrimal.{is_of_a, lines_of_a, next_scale, scales, last_scale, scaled, run_scale, wide_number, number_at_place, numbers_of_range, primal_over}
+use Rattle.ct_finder.specs.RunPrimal.{lines_of_a, next_scale, scales, scaled, run_scale, wide_number, number_at_place, run_primal}
 use Rattle.ct_finder.specs.declared.reading.Reading.TheVariants.{Primal, Wide}
 use Rattle.ct_finder.specs.Reading.{is_large, large, large_scale, large_number, line_of, scale_after, large_after, reading_at, reading_of}
 
@@ -52,13 +53,13 @@ wide-parts range t =
 
 pub reading-scale : (e : Entry) (even : Bool) (range : List ℕ) (t : Tableau) (x : ℕ) → Some x ≡ large_scale (length range) t → Wide (pos x) ≡ reading_of e even range t
 reading-scale e even range t x is =
-    ap (λ o. reading_at o (primal_over e even range t))
+    ap (λ o. reading_at o (run_primal e even range t))
     (sym (wide-parts range t ∙ ap (λ o. option_map pos (first_of o (large_number (run_scale (length range) t) (length range) t))) (sym is)))
 
 pub reading-number : (e : Entry) (even : Bool) (range : List ℕ) (t : Tableau) (q x : ℕ) → None ≡ large_scale (length range) t → q ≡ run_scale (length range) t
     → Some x ≡ large_number q (length range) t → Wide (pos x) ≡ reading_of e even range t
 reading-number e even range t q x none q_is is =
-    ap (λ o. reading_at o (primal_over e even range t))
+    ap (λ o. reading_at o (run_primal e even range t))
     (sym (wide-parts range t ∙ ap₂ (λ o p. option_map pos (first_of o p)) (sym none) (sym (is ∙ ap (λ s. large_number s (length range) t) q_is))))
 
 pub reading-primal : (e : Entry) (even : Bool) (range : List ℕ) (t : Tableau) (q : ℕ) (a : List (ℕ × ℤ)) → None ≡ large_scale (length range) t
@@ -66,7 +67,7 @@ pub reading-primal : (e : Entry) (even : Bool) (range : List ℕ) (t : Tableau) 
     → Primal (record { entry = e; even = even; q = pos q; a = a }) ≡ reading_of e even range t
 reading-primal e even range t q a none q_is fits a_is =
     ap₂ (λ (s : ℕ) (us : List (ℕ × ℤ)). Primal (record { entry = e; even = even; q = pos s; a = us })) q_is a_is
-    ∙ ap (λ o. reading_at o (primal_over e even range t))
+    ∙ ap (λ o. reading_at o (run_primal e even range t))
     (sym (wide-parts range t ∙ ap₂ (λ o p. option_map pos (first_of o p)) (sym none) (sym (fits ∙ ap (λ s. large_number s (length range) t) q_is))))
 
 -- one row more: the scale goes on, or it is too large
@@ -74,7 +75,7 @@ abbrev pub of_a : ℕ → List (List ℤ × ℕ) → List (List ℤ × ℕ)
 of_a count ls = filter (is_of_a count) ls
 
 pub scale-goes_on : (count q : ℕ) (l : List ℤ × ℕ) (ls : List (List ℤ × ℕ)) → None ≡ large (scale_after q (line_of l) count) → is_large q ≡ false
-    → (last_scale (scale_after q (line_of l) count) (of_a count ls) ≡ last_scale q (of_a count (l ∷ ls)))
+    → (fold next_scale (scale_after q (line_of l) count) (of_a count ls) ≡ fold next_scale q (of_a count (l ∷ ls)))
     × (find is_large (scales (scale_after q (line_of l) count) (of_a count ls)) ≡ find is_large (scales q (of_a count (l ∷ ls))))
 scale-goes_on count q l ls none narrow = go (is_of_a count l) none
   where
@@ -90,7 +91,7 @@ scale-goes_on count q l ls none narrow = go (is_of_a count l) none
     wide false is h = refl
 
     go : (b : Bool) → None ≡ large (cond b next q)
-        → (last_scale (cond b next q) rest ≡ last_scale q (cond b (l ∷ rest) rest))
+        → (fold next_scale (cond b next q) rest ≡ fold next_scale q (cond b (l ∷ rest) rest))
         × (find is_large (scales (cond b next q) rest) ≡ find is_large (scales q (cond b (l ∷ rest) rest)))
     go true h = (refl, wide (is_large next) refl h)
     go false h = (refl, refl)
@@ -186,13 +187,13 @@ parts-none : (range : List ℕ) (t : Tableau) → wide_number (length range) t �
 parts-none range t none =
     no-first (large_scale (length range) t) (large_number (run_scale (length range) t) (length range) t) (sym (wide-parts range t) ∙ none)
 
-last-narrow : (q : ℕ) (ls : List (List ℤ × ℕ)) → is_large q ≡ false → find is_large (scales q ls) ≡ None → is_large (last_scale q ls) ≡ false
+last-narrow : (q : ℕ) (ls : List (List ℤ × ℕ)) → is_large q ≡ false → find is_large (scales q ls) ≡ None → is_large (fold next_scale q ls) ≡ false
 last-narrow q [] narrow none = narrow
 last-narrow q (l ∷ ls) narrow none = go (is_large (next_scale q l)) refl none (λ h k. last-narrow (next_scale q l) ls h k)
   where
     go : (b : Bool) → is_large (next_scale q l) ≡ b → cond b (Some (next_scale q l)) (find is_large (scales (next_scale q l) ls)) ≡ None
-        → (is_large (next_scale q l) ≡ false → find is_large (scales (next_scale q l) ls) ≡ None → is_large (last_scale (next_scale q l) ls) ≡ false)
-        → is_large (last_scale (next_scale q l) ls) ≡ false
+        → (is_large (next_scale q l) ≡ false → find is_large (scales (next_scale q l) ls) ≡ None → is_large (fold next_scale (next_scale q l) ls) ≡ false)
+        → is_large (fold next_scale (next_scale q l) ls) ≡ false
     go true is h rest = absurd cc
     go false is h rest = rest is h
 

@@ -1,4 +1,5 @@
 -- The dual of a run that ends as least is accepted.
+use Rattle.ct_finder.specs.Inside.Rows.{rows_to, multipliers_of}
 use Rattle.std.proofs.Common.{◌≡◌, ℕ, zero, suc, ◌+◌, ◌%◌, ◌/◌, ◌<◌, ◌≤◌, ◌==◌, Bool, true, false, ◌&&◌, ◌||◌, not, cond, List, [], ◌∷◌, map, length, min, refl, ap, ◌∙◌, arith, leb-true, eqb-true}
 use Rattle.std.specs.Prelude.{All, ◌^◌, ℤ, pos, neg_ℤ, ◌+ℤ◌, ◌*ℤ◌, ◌≤ℤ◌, ◌<ℤ◌, int_lt, Option, Some, None, filter, nat_le}
 use Rattle.std.specs.List.{list_any, range_with_len}
@@ -19,11 +20,11 @@ use Rattle.ct_words.specs.Numbers.{multiplier, combination}
 use Rattle.ct_duals.specs.Dual.{IsDual, as_index, degree_of, allowed, is_in_range}
 use Rattle.ct_duals.specs.Check.{first_below, fault_at, above_fault, dual_fault}
 use Rattle.ct_duals.specs.Bound.{natural, dual_bound}
-use Rattle.ct_finder.specs.Column.{Column, Tableau, range_of, rows_to, columns, opening_entry, cost_entry, opening_row}
+use Rattle.ct_finder.specs.Column.{Column, Tableau, range_of, columns, opening_entry, cost_entry, opening}
 use Rattle.ct_finder.specs.Column.Column.{Z, A, S, Constant}
-use Rattle.ct_finder.specs.Run.{run_of, columns_of, opening_of, coefficient, multipliers_of, run_dual, IsAsked}
+use Rattle.ct_finder.specs.Run.{run_of, coefficient, run_dual, IsAsked}
 use Rattle.ct_finder.specs.Run.End.{Least}
-use Rattle.ct_finder.specs.Sum.{IsSum}
+use Rattle.ct_finder.specs.Sum.{IsSum, opening_row}
 use Rattle.ct_finder.proofs.Entries.{coefficient-map, has-a, has-constant}
 use Rattle.ct_finder.proofs.Sums.{All-range}
 use Rattle.ct_finder.proofs.TurnedTableaus.{kept-opening}
@@ -141,9 +142,9 @@ accepted-from number d no_allowance lead below =
 
 -- the dual of a cost row that no column enters
 pub dual-form : (number : ℕ → ℕ → ℤ) (e : Entry) (even : Bool) (last : Tableau) → IsAsked e even
-    → IsLeastAt number (columns_of e even) (degree_of e) last → All IsNarrow last.cost → IsDual (run_dual e even last.cost)
+    → IsLeastAt number (columns (range_of e even) (degree_of e)) (degree_of e) last → All IsNarrow last.cost → IsDual (run_dual e even last.cost)
 dual-form number e even last asked least narrow =
-    let cs = columns_of e even in
+    let cs = (columns (range_of e even) (degree_of e)) in
     let cost = last.cost in
     let count = length-map-range_with_len (λ k. coefficient cs cost (S k)) 1 (degree_of e) in
     let lead : pos 1 ≤ℤ coefficient cs cost Z = least.kept.sums.some_of_cost in
@@ -168,9 +169,9 @@ dual-form number e even last asked least narrow =
     }
 
 pub dual-accepted : (number : ℕ → ℕ → ℤ) (e : Entry) (even : Bool) (last : Tableau) → ((i : ℕ) → number 0 i ≡ pos 1)
-    → IsLeastAt number (columns_of e even) (degree_of e) last → dual_fault number (run_dual e even last.cost) ≡ None
+    → IsLeastAt number (columns (range_of e even) (degree_of e)) (degree_of e) last → dual_fault number (run_dual e even last.cost) ≡ None
 dual-accepted number e even last ones least =
-    let cs = columns_of e even in
+    let cs = (columns (range_of e even) (degree_of e)) in
     let cost = last.cost in
     let sum = least.kept.sums.cost in
     accepted-from number (run_dual e even cost) refl least.kept.sums.some_of_cost
@@ -192,10 +193,10 @@ bound-without d at_zero none = go d.y none
     go (p ∷ y) e = absurd cc
 
 pub least-of : (number : ℕ → ℕ → ℤ) (e : Entry) (even : Bool) (pivots : ℕ) (last : Tableau) → run_of number e even pivots ≡ Least last
-    → IsLeastAt number (columns_of e even) (degree_of e) last
+    → IsLeastAt number (columns (range_of e even) (degree_of e)) (degree_of e) last
 least-of number e even pivots last is =
-    least-at number (columns_of e even) (degree_of e) pivots (opening_of number e even) last (kept-opening number (range_of e even) (degree_of e)) is
+    least-at number (columns (range_of e even) (degree_of e)) (degree_of e) pivots (opening number (range_of e even) (degree_of e)) last (kept-opening number (range_of e even) (degree_of e)) is
 
 pub narrow-of : (number : ℕ → ℕ → ℤ) (e : Entry) (even : Bool) (pivots : ℕ) (last : Tableau) → run_of number e even pivots ≡ Least last → All IsNarrow last.cost
 narrow-of number e even pivots last is =
-    narrow-at (columns_of e even) pivots (opening_of number e even) last (narrow-cost (range_of e even) (degree_of e)) is
+    narrow-at (columns (range_of e even) (degree_of e)) pivots (opening number (range_of e even) (degree_of e)) last (narrow-cost (range_of e even) (degree_of e)) is

@@ -1,4 +1,5 @@
 -- The pairs of a run's primal: a sum over them is one over the rows whose basic column is an a.
+use Rattle.ct_finder.specs.Inside.Numbers.{numbers_of_range, is_of_a}
 use Rattle.std.proofs.Common.{◌≡◌, ◌≢◌, ℕ, zero, suc, ◌+◌, ◌-◌, ◌<◌, ◌≤◌, ◌==◌, Bool, true, false, ◌&&◌, cond, nat_le, List, [], ◌∷◌, map, length, get_or, refl, sym, ap, ap₂, ◌∙◌, arith, eqb-true, leb-true, inl, inr}
 use Rattle.std.specs.Prelude.{filter, zip, ℤ, pos, ◌+ℤ◌, ◌*ℤ◌, int_lt}
 use Rattle.std.specs.List.{AllByRecursion, range_with_len}
@@ -8,7 +9,7 @@ use Rattle.ct_words.specs.Counting.Sums.{total}
 use Rattle.ct_words.proofs.Counting.Totals.{total-congruence, total-zero, total-add, total-map}
 use Rattle.ct_words.proofs.Counting.PartTotals.{total-filter}
 use Rattle.ct_finder.specs.Column.{Tableau}
-use Rattle.ct_finder.specs.RunPrimal.{is_of_a, scaled, run_scale, number_at_place, numbers_of_range}
+use Rattle.ct_finder.specs.RunPrimal.{scaled, run_scale, number_at_place}
 
 -- no two rows have the same basic column
 abbrev pub AreApart : List (List ℤ × ℕ) → Type 0

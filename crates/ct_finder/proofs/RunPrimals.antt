@@ -1,4 +1,6 @@
 -- The primal of a run that ends as least is sound, and its value is the bound of the run's dual.
+use Rattle.ct_finder.specs.Inside.Numbers.{is_of_a}
+use Rattle.ct_finder.specs.Sum.{opening_row}
 use Rattle.std.proofs.Common.{◌≡◌, ℕ, zero, suc, ◌+◌, ◌-◌, ◌*◌, ◌/◌, ◌<◌, ◌≤◌, ◌==◌, Bool, true, false, cond, ◌&&◌, nat_le, List, [], ◌∷◌, map, length, get_or, refl, sym, ap, ap₂, ◌∙◌, arith, subst, leb-true, inl, inr}
 use Rattle.std.specs.Prelude.{ℤ, pos, negsuc, neg_ℤ, ◌+ℤ◌, ◌*ℤ◌, ◌≤ℤ◌}
 use Rattle.std.specs.List.{AllByRecursion}
@@ -12,12 +14,12 @@ use Rattle.ct_words.proofs.Counting.Totals.{total-add, total-scale}
 use Rattle.ct_words.proofs.Counting.Products.{int_mul_assoc, int_mul_comm, int_neg_mul, int_mul_neg}
 use Rattle.ct_words.proofs.Counting.Totals.{int_dist}
 use Rattle.ct_words.proofs.Counting.Combinations.{product-nonneg}
-use Rattle.ct_finder.specs.Column.{Tableau, columns, opening_entry, opening_row, cost_entry, opening}
+use Rattle.ct_finder.specs.Column.{Tableau, columns, opening_entry, cost_entry, opening}
 use Rattle.ct_finder.specs.Column.Column.{Z, A, S}
 use Rattle.ct_finder.specs.Pivot.{at, constant_of}
 use Rattle.ct_finder.specs.Run.{coefficient}
 use Rattle.ct_finder.specs.Basic.{worth, row_at, basic_at, Solves}
-use Rattle.ct_finder.specs.RunPrimal.{basic_entry, basic_constant, is_of_a, lines_of_a, scaled, run_scale}
+use Rattle.ct_finder.specs.RunPrimal.{basic_entry, basic_constant, lines_of_a, scaled, run_scale}
 use Rattle.ct_finder.proofs.Crossed.{int_cancel}
 use Rattle.ct_finder.proofs.PlaceEntries.{nonneg-from_product}
 use Rattle.ct_finder.proofs.Places.{length-columns, column-a, column-s, column-last, opening-at, opening-constant, cost-at}

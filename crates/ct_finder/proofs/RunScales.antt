@@ -1,13 +1,13 @@
 -- The scale of a run's primal is a multiple of the entry of each row from which it is made.
 use Rattle.std.proofs.Common.{◌≡◌, ℕ, zero, suc, ◌*◌, ◌/◌, ◌≤◌, Bool, true, false, cond, List, [], ◌∷◌, refl, sym, ◌∙◌, arith, subst}
-use Rattle.std.specs.Prelude.{filter, ℤ}
+use Rattle.std.specs.Prelude.{filter, ℤ, fold}
 use Rattle.std.specs.List.{AllByRecursion}
 use Rattle.std.specs.Int.{◌∣◌}
 use Rattle.std.proofs.Math.Nat.{dvd-mul_left, dvd-mul_right, dvd-mul_left_of_dvd, mul-dvd-mul_left, div-mul_cancel}
 use Rattle.std.proofs.lemmas.Nat.{mul-le}
 use Rattle.std.proofs.lemmas.Nat.Gcd.{dvd_refl, dvd_trans}
 use Rattle.ct_finder.specs.Divisor.{gcd}
-use Rattle.ct_finder.specs.RunPrimal.{basic_entry, next_scale, last_scale}
+use Rattle.ct_finder.specs.RunPrimal.{basic_entry, next_scale}
 use Rattle.ct_finder.proofs.Divisors.{gcd-is}
 
 -- what holds of each element holds where it says less
@@ -53,7 +53,7 @@ next-multiple q b some more =
 
 -- so the last scale is a multiple of each entry
 pub divides-last : (q : ℕ) (ls : List (List ℤ × ℕ)) → 1 ≤ q → AllByRecursion (λ l. 1 ≤ basic_entry l) ls
-    → (q ∣ last_scale q ls) × (1 ≤ last_scale q ls) × AllByRecursion (λ l. basic_entry l ∣ last_scale q ls) ls
+    → (q ∣ fold next_scale q ls) × (1 ≤ fold next_scale q ls) × AllByRecursion (λ l. basic_entry l ∣ fold next_scale q ls) ls
 divides-last q [] some h = (dvd_refl q, some, tt)
 divides-last q (l ∷ ls) some h =
     let next = next-multiple q (basic_entry l) some h.0 in

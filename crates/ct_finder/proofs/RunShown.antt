@@ -1,4 +1,6 @@
 -- The primal of a run that ends as least has the form of one, is sound, and has the value of the dual's bound.
+use Rattle.ct_finder.specs.Inside.Rows.{rows_to}
+use Rattle.ct_finder.specs.Inside.Numbers.{numbers_of_range}
 use Rattle.std.proofs.Common.{◌≡◌, ℕ, zero, suc, ◌+◌, ◌-◌, ◌*◌, ◌/◌, ◌<◌, ◌≤◌, Bool, true, false, cond, min, List, [], ◌∷◌, ◌++◌, map, length, refl, sym, ap, ap₂, ◌∙◌, arith, subst}
 use Rattle.std.specs.Prelude.{filter, zip, AllPairs, IsTrue, ℤ, pos, negsuc, ◌+ℤ◌, ◌*ℤ◌, ◌≤ℤ◌, int_lt}
 use Rattle.std.specs.List.{AllByRecursion, range_with_len}
@@ -14,12 +16,12 @@ use Rattle.ct_duals.specs.Dual.{degree_of, is_in_range}
 use Rattle.ct_duals.specs.Bound.{natural, dual_bound}
 use Rattle.ct_primal.specs.Primal.{IsPrimal, IsSound, primal_value}
 use Rattle.ct_primal.proofs.WeakDuality.{quotients-le}
-use Rattle.ct_finder.specs.Column.{Tableau, range_of, rows_to, columns}
+use Rattle.ct_finder.specs.Column.{Tableau, range_of, columns, opening}
 use Rattle.ct_finder.specs.Column.Column.{A, S, Constant}
 use Rattle.ct_finder.specs.Pivot.{at, constant_of}
-use Rattle.ct_finder.specs.Run.{run_of, columns_of, opening_of, coefficient, run_dual, IsAsked}
+use Rattle.ct_finder.specs.Run.{run_of, coefficient, run_dual, IsAsked}
 use Rattle.ct_finder.specs.Run.End.{Least}
-use Rattle.ct_finder.specs.RunPrimal.{run_scale, number_at_place, numbers_of_range, run_primal}
+use Rattle.ct_finder.specs.RunPrimal.{run_scale, number_at_place, run_primal}
 use Rattle.ct_finder.proofs.Places.{length-columns}
 use Rattle.ct_finder.proofs.Ends.{end-of_run}
 use Rattle.ct_finder.proofs.BasicRuns.{IsSolved, solved-opening, solved-narrow}
@@ -80,7 +82,7 @@ all-pass p (x ∷ xs) = go (p x) refl (all-pass p xs)
     go false is ih = ih
 
 -- the form of a primal
-pub primal-form : (e : Entry) (even : Bool) (t : Tableau) → IsAsked e even → IsPrimal (run_primal e even t)
+pub primal-form : (e : Entry) (even : Bool) (t : Tableau) → IsAsked e even → IsPrimal (run_primal e even (range_of e even) t)
 primal-form e even t asked =
     let range = range_of e even in
     let f : ℕ → ℕ = number_at_place (run_scale (length range) t) (lines_of t) in
@@ -100,11 +102,11 @@ primal-form e even t asked =
 pub solved-of : (number : ℕ → ℕ → ℤ) (e : Entry) (even : Bool) (pivots : ℕ) (last : Tableau) → ((k : ℕ) → k ≤ degree_of e → pos 0 ≤ℤ number k 0)
     → run_of number e even pivots ≡ Least last → IsSolved number (range_of e even) (degree_of e) last
 solved-of number e even pivots last some is =
-    (end-of_run (IsSolved number (range_of e even) (degree_of e)) (columns_of e even) (solved-narrow number (range_of e even) (degree_of e)) pivots
-    (opening_of number e even) last (solved-opening number (range_of e even) (degree_of e) some) is).kept
+    (end-of_run (IsSolved number (range_of e even) (degree_of e)) (columns (range_of e even) (degree_of e)) (solved-narrow number (range_of e even) (degree_of e)) pivots
+    (opening number (range_of e even) (degree_of e)) last (solved-opening number (range_of e even) (degree_of e) some) is).kept
 
 -- its primal is sound
-pub primal-sound : (number : ℕ → ℕ → ℤ) (e : Entry) (even : Bool) (t : Tableau) → IsSolved number (range_of e even) (degree_of e) t → IsSound number (run_primal e even t)
+pub primal-sound : (number : ℕ → ℕ → ℤ) (e : Entry) (even : Bool) (t : Tableau) → IsSolved number (range_of e even) (degree_of e) t → IsSound number (run_primal e even (range_of e even) t)
 primal-sound number e even t solved =
     let range = range_of e even in
     let shown = shown-from number range (degree_of e) t solved in
@@ -165,14 +167,14 @@ seconds P (u ∷ us) h = (h.0.1, seconds P us h.1)
 
 -- and its value is the bound of the dual
 pub primal-value : (number : ℕ → ℕ → ℤ) (e : Entry) (even : Bool) (t : Tableau) → number 0 0 ≡ pos 1 → IsSolved number (range_of e even) (degree_of e) t
-    → primal_value (run_primal e even t) ≡ dual_bound (run_dual e even t.cost) (combination number (run_dual e even t.cost).c 0) []
+    → primal_value (run_primal e even (range_of e even) t) ≡ dual_bound (run_dual e even t.cost) (combination number (run_dual e even t.cost).c 0) []
 unfolding primal_value
 primal-value number e even t one solved =
     let range = range_of e even in
     let degree = degree_of e in
     let cs = columns range degree in
     let q = run_scale (length range) t in
-    let p = run_primal e even t in
+    let p = run_primal e even (range_of e even) t in
     let shown = shown-from number range degree t solved in
     let lead = subst (λ z. pos 1 ≤ℤ z) (sym (first-entry range degree t.cost)) solved.kept.sums.some_of_cost in
     let sum : total (λ u. u.1) p.a ≡ total (term_of q range (λ i. pos 1)) (lines_of t) =

@@ -19,7 +19,7 @@ use Rattle.ct_duals.specs.Bound.{dual_bound}
 use Rattle.ct_duals.proofs.Sound.{AreLaws}
 use Rattle.ct_primal.specs.Primal.{PrimalValue, IsPrimal, IsSound, primal_value}
 use Rattle.ct_primal.proofs.PrimalFaults.{primal-least}
-use Rattle.ct_finder.specs.Found.{bound_of_dual}
+use Rattle.ct_finder.specs.Found.{bound_without_allowances}
 
 laws_of : (n : ℕ) (w : Option ℕ)
     → AreLaws (λ x. (x < 2 ^ n) × IfSome w (λ v. weight n x ≡ v)) (λ x y. as_index w (distance n x y)) (greatest_index n w) (number_at n w)
@@ -38,7 +38,7 @@ laws_of n (Some w) = record {
 
 -- a sound primal lies below every dual of the entry and mark that is accepted and allows nothing
 pub below-duals : (p : PrimalValue) → IsPrimal p → IsSound (numbers_of p.entry) p → (d : Dual) → IsDual d → d.entry ≡ p.entry → d.even ≡ p.even → d.y ≡ []
-    → dual_fault (numbers_of d.entry) d ≡ None → primal_value p ≤ bound_of_dual d
+    → dual_fault (numbers_of d.entry) d ≡ None → primal_value p ≤ bound_without_allowances d
 below-duals p form sound d dual entry even nothing accepted =
     let e = p.entry in
     let fits : Fits (IsWordOf e) (index_of e) (degree_of e) (numbers_of e) e =

@@ -1,16 +1,17 @@
 -- Each row of a run is a sum of the opening rows: the opening tableau's rows are, and pivots keep it.
+use Rattle.ct_finder.specs.Inside.Rows.{rows_to}
 use Rattle.std.proofs.Common.{◌≡◌, ℕ, zero, suc, ◌+◌, ◌<◌, ◌≤◌, cond, List, map, length, refl, sym, ap, ap₂, ◌∙◌, arith}
 use Rattle.std.specs.Prelude.{ℤ, pos, ◌-ℤ◌, ◌*ℤ◌, ◌≤ℤ◌}
 use Rattle.std.specs.List.{All, range_with_len}
 use Rattle.std.proofs.lemmas.Int.{ints}
 use Rattle.std.proofs.lemmas.List.Elements.{All-nil, All-cons, All-map}
 use Rattle.ct_words.specs.Counting.Alternating.{total_below}
-use Rattle.ct_finder.specs.Column.{Column, rows_to, columns, opening_entry, cost_entry, opening_row, opening}
+use Rattle.ct_finder.specs.Column.{Column, columns, opening_entry, cost_entry, opening}
 use Rattle.ct_finder.specs.Column.Column.{Z, S}
 use Rattle.ct_finder.specs.Divisor.{divisor}
 use Rattle.ct_finder.specs.Pivot.{at, crossed, pivoted_row}
 use Rattle.ct_finder.specs.Run.{coefficient}
-use Rattle.ct_finder.specs.Sum.{sum_of_opening, IsSum, AreSums}
+use Rattle.ct_finder.specs.Sum.{sum_of_opening, IsSum, AreSums, opening_row}
 use Rattle.ct_finder.proofs.Divisors.{divisor-some}
 use Rattle.ct_finder.proofs.Entries.{coefficient-map, has-s, coefficient-crossed, coefficient-reduced}
 use Rattle.ct_finder.proofs.Crossed.{same_suc, int_cancel, positive-mul, positive-from, product-crossed, sum-crossed, total-crossed, total-none, total-one}

@@ -1,4 +1,6 @@
 -- Pivots of tableaus: each row stays a sum of the opening rows, and as wide as the columns.
+use Rattle.ct_finder.specs.Inside.Pivot.{is_unbeaten}
+use Rattle.ct_finder.specs.Inside.Rows.{rows_to}
 use Rattle.std.proofs.Common.{◌≡◌, ℕ, ◌<◌, true, ◌&&◌, List, [], map, length, get_or, sym, ap, ◌∙◌, arith}
 use Rattle.std.specs.Prelude.{zip, ℤ, pos, ◌≤ℤ◌, int_lt, Some}
 use Rattle.std.proofs.lemmas.Int.{ints}
@@ -7,11 +9,11 @@ use Rattle.std.proofs.lemmas.List.{length-map}
 use Rattle.std.proofs.lemmas.List.Elements.{All-map, All-set, All-get_or}
 use Rattle.std.proofs.lemmas.List.Quantifiers.{position-Some}
 use Rattle.std.proofs.lemmas.Slice.Zip.{length-zip, get_or-zip}
-use Rattle.ct_finder.specs.Column.{Column, Tableau, columns, opening_entry, opening_row, cost_entry, opening, rows_to}
+use Rattle.ct_finder.specs.Column.{Column, Tableau, columns, opening_entry, cost_entry, opening}
 use Rattle.ct_finder.specs.Column.Column.{Z}
-use Rattle.ct_finder.specs.Pivot.{at, is_candidate, is_unbeaten, pivot_row, pivoted_row, pivoted}
+use Rattle.ct_finder.specs.Pivot.{at, is_candidate, pivot_row, pivoted_row, pivoted}
 use Rattle.ct_finder.specs.Run.{coefficient}
-use Rattle.ct_finder.specs.Sum.{IsSum, AreSums, HasWidth}
+use Rattle.ct_finder.specs.Sum.{IsSum, AreSums, HasWidth, opening_row}
 use Rattle.ct_finder.proofs.Sums.{sum-pivoted, none-pivoted, some-pivoted, sums-opening}
 
 -- a pivot keeps the width of a row

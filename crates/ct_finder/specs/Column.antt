@@ -30,17 +30,13 @@ is_choice Constant = false
 abbrev pub range_of : Entry → Bool → List ℕ
 range_of e even = filter (is_in_range e even) (range_with_len 0 (suc (degree_of e)))
 
--- 1, 2, .., degree
-abbrev pub rows_to : ℕ → List ℕ
-rows_to degree = range_with_len 1 degree
-
 -- the columns in order: z, an a for each index of the range, an s for each row, and the constants
 abbrev pub columns : List ℕ → ℕ → List Column
-columns range degree = Z ∷ (map A range ++ (map S (rows_to degree) ++ Constant ∷ []))
+columns range degree = Z ∷ (map A range ++ (map S (range_with_len 1 degree) ++ Constant ∷ []))
 
 -- the place of a column
-abbrev pub place_of : Column → List Column → ℕ
-place_of c cs = position_or_len (λ x. same_column x c) cs
+abbrev pub place_of_column : Column → List Column → ℕ
+place_of_column c cs = position_or_len (λ x. same_column x c) cs
 
 -- the opening row of k: -N(k,i) at each a_i, 1 at s_k, N(k,0) at the constant and 0 elsewhere
 abbrev pub opening_entry : (ℕ → ℕ → ℤ) → ℕ → Column → ℤ
@@ -62,14 +58,10 @@ pub record Tableau : Type 0 where
   pub basics : List ℕ
   pub cost : List ℤ
 
--- the opening row of k, as the list of its entries
-abbrev pub opening_row : (ℕ → ℕ → ℤ) → List Column → ℕ → List ℤ
-opening_row number cs k = map (opening_entry number k) cs
-
 -- the opening tableau: the rows of 1, .., degree, with s_k as the basic column of the row of k
 abbrev pub opening : (ℕ → ℕ → ℤ) → List ℕ → ℕ → Tableau
 opening number range degree = record {
-  rows = map (opening_row number (columns range degree)) (rows_to degree);
-  basics = map (λ k. place_of (S k) (columns range degree)) (rows_to degree);
+  rows = map (λ k. map (opening_entry number k) (columns range degree)) (range_with_len 1 degree);
+  basics = map (λ k. place_of_column (S k) (columns range degree)) (range_with_len 1 degree);
   cost = map cost_entry (columns range degree);
 }

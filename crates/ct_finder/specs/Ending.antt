@@ -1,8 +1,9 @@
 -- How a run ends, with the multipliers of its dual, and what is read of its primal, in place of its tableau.
+use Rattle.ct_finder.specs.Inside.Rows.{multipliers_of}
 use Rattle.std.specs.Prelude.{ℕ, ℤ, Bool, List, Option, Some, None}
 use Rattle.ct_words.specs.declared.entry.Entry.{Entry}
 use Rattle.ct_finder.specs.Column.{columns}
-use Rattle.ct_finder.specs.Run.{End, multipliers_of}
+use Rattle.ct_finder.specs.Run.{End}
 use Rattle.ct_finder.specs.Run.End.{Least as LeastEnd, Turns as TurnsEnd, Wide as WideEnd}
 use Rattle.ct_finder.specs.declared.ending.Ending.{Ending}
 use Rattle.ct_finder.specs.declared.ending.Ending.TheVariants.{Least, Turns, Wide}

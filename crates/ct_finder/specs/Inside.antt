@@ -1,1 +1,4 @@
+pub mod Numbers
 pub mod Pivot
+pub mod Rows
+pub mod Step

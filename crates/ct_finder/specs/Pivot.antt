@@ -26,13 +26,10 @@ comes_before e l m =
     int_lt (constant_of l.0 *ℤ at m.0 e) (constant_of m.0 *ℤ at l.0 e)
     || (int_le (constant_of l.0 *ℤ at m.0 e) (constant_of m.0 *ℤ at l.0 e) && nat_lt l.1 m.1)
 
--- no candidate comes before the row
-abbrev pub is_unbeaten : ℕ → List (List ℤ × ℕ) → List ℤ × ℕ → Bool
-is_unbeaten e lines l = list_all (λ m. not (is_candidate e m && comes_before e m l)) lines
-
 -- the place of the pivot row: the first candidate that no candidate comes before
 abbrev pub pivot_row : ℕ → Tableau → Option ℕ
-pivot_row e t = position (λ l. is_candidate e l && is_unbeaten e (zip t.rows t.basics) l) (zip t.rows t.basics)
+pivot_row e t =
+    position (λ l. is_candidate e l && list_all (λ m. not (is_candidate e m && comes_before e m l)) (zip t.rows t.basics)) (zip t.rows t.basics)
 
 -- p · R - r · P
 abbrev pub crossed : ℤ → ℤ → List ℤ → List ℤ → List ℤ

@@ -5,7 +5,7 @@ use Rattle.ct_primal.specs.Primal.{PrimalValue}
 use Rattle.ct_finder.specs.Column.{Tableau}
 use Rattle.ct_finder.specs.Divisor.{gcd}
 use Rattle.ct_finder.specs.Pivot.{is_wide}
-use Rattle.ct_finder.specs.RunPrimal.{basic_entry, basic_constant, lines_of_a, scales, scaled, wide_number, primal_over}
+use Rattle.ct_finder.specs.RunPrimal.{basic_entry, basic_constant, lines_of_a, scales, scaled, wide_number, run_primal}
 use Rattle.ct_finder.specs.declared.tableau.Tableau.{Tableau as TableauOfCode}
 use Rattle.ct_finder.specs.declared.reading.Line.{Line}
 use Rattle.ct_finder.specs.declared.reading.Reading.{Reading}
@@ -58,4 +58,4 @@ reading_at (Some x) p = Wide x
 
 -- what is read off a tableau over a range of indices
 abbrev pub reading_of : Entry → Bool → List ℕ → Tableau → Reading
-reading_of e even range t = reading_at (wide_number (length range) t) (primal_over e even range t)
+reading_of e even range t = reading_at (wide_number (length range) t) (run_primal e even range t)

@@ -1,9 +1,10 @@
 -- A tableau as the definitions see it, and what a pivot needs of it.
 use Rattle.std.specs.Prelude.{◌≡◌, ◌≤◌, length, Option, Some, None}
 use Rattle.ct_finder.specs.Column.{Tableau as TableauOf}
-use Rattle.ct_finder.specs.Run.{End, Step}
+use Rattle.ct_finder.specs.Run.{End}
+use Rattle.ct_finder.specs.Inside.Step.{Step}
 use Rattle.ct_finder.specs.Run.End.{Least as LeastEnd, Turns as TurnsEnd, Wide as WideEnd}
-use Rattle.ct_finder.specs.Run.Step.{ended, goes}
+use Rattle.ct_finder.specs.Inside.Step.Step.{ended, goes}
 use Rattle.ct_finder.specs.Sum.{HasWidth}
 use Rattle.ct_finder.specs.declared.tableau.Tableau.{Tableau}
 use Rattle.ct_finder.specs.declared.running.Ending.{Ending}

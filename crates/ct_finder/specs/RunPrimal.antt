@@ -1,10 +1,10 @@
 -- The primal of a run that ends as least: the numbers of the a's over a common scale, read off the rows whose basic column is an a.
-use Rattle.std.specs.Prelude.{ℕ, ◌*◌, ◌/◌, ◌==◌, Bool, ◌&&◌, nat_le, if◌then◌else◌, List, [], ◌∷◌, ◌++◌, map, filter, find, zip, length, Option, ℤ, pos, int_lt}
+use Rattle.std.specs.Prelude.{ℕ, ◌*◌, ◌/◌, ◌==◌, Bool, ◌&&◌, nat_le, if◌then◌else◌, List, [], ◌∷◌, ◌++◌, map, filter, find, zip, length, fold, Option, ℤ, pos, int_lt}
 use Rattle.std.specs.List.{range_with_len}
 use Rattle.ct_words.specs.declared.entry.Entry.{Entry}
 use Rattle.ct_duals.specs.Bound.{natural}
 use Rattle.ct_primal.specs.Primal.{PrimalValue}
-use Rattle.ct_finder.specs.Column.{Tableau, range_of}
+use Rattle.ct_finder.specs.Column.{Tableau}
 use Rattle.ct_finder.specs.Divisor.{gcd}
 use Rattle.ct_finder.specs.Pivot.{at, constant_of, is_wide}
 
@@ -16,13 +16,9 @@ basic_entry l = natural (at l.0 l.1)
 abbrev pub basic_constant : List ℤ × ℕ → ℕ
 basic_constant l = natural (constant_of l.0)
 
--- whether the basic column is an a: for so many indices these stand at the places from 1 on
-abbrev pub is_of_a : ℕ → List ℤ × ℕ → Bool
-is_of_a count l = nat_le 1 l.1 && nat_le l.1 count
-
--- the rows whose basic column is an a, in order of k, each with its place
+-- the rows whose basic column is an a, in order of k, each with its place: for so many indices the a's stand at the places from 1 on
 abbrev pub lines_of_a : ℕ → Tableau → List (List ℤ × ℕ)
-lines_of_a count t = filter (is_of_a count) (zip t.rows t.basics)
+lines_of_a count t = filter (λ l. nat_le 1 l.1 && nat_le l.1 count) (zip t.rows t.basics)
 
 -- the scale that a row makes of the one before: (q/g) · β, with the greatest common divisor g of q and β, which is the least common multiple of both
 abbrev pub next_scale : ℕ → List ℤ × ℕ → ℕ
@@ -33,18 +29,13 @@ abbrev pub scales : ℕ → List (List ℤ × ℕ) → List ℕ
 scales q [] = []
 scales q (l ∷ ls) = next_scale q l ∷ scales (next_scale q l) ls
 
--- the scale after all rows
-abbrev pub last_scale : ℕ → List (List ℤ × ℕ) → ℕ
-last_scale q [] = q
-last_scale q (l ∷ ls) = last_scale (next_scale q l) ls
-
 -- the number of a row over the scale: κ · (q/β)
 abbrev pub scaled : ℕ → List ℤ × ℕ → ℕ
 scaled q l = basic_constant l * (q / basic_entry l)
 
 -- the scale of the primal
 abbrev pub run_scale : ℕ → Tableau → ℕ
-run_scale count t = last_scale 1 (lines_of_a count t)
+run_scale count t = fold next_scale 1 (lines_of_a count t)
 
 -- the numbers in the order in which they are made: the scale after each row, then the number of each
 abbrev pub numbers_made : ℕ → Tableau → List ℕ
@@ -59,20 +50,13 @@ abbrev pub number_at_place : ℕ → List (List ℤ × ℕ) → ℕ → ℕ
 number_at_place q [] place = 0
 number_at_place q (l ∷ ls) place = if l.1 == place then scaled q l else number_at_place q ls place
 
--- each index with the number of its a
-abbrev pub numbers_of_range : List ℕ → Tableau → List (ℕ × ℤ)
-numbers_of_range range t =
-    map (λ v. (v.0, pos (number_at_place (run_scale (length range) t) (zip t.rows t.basics) v.1))) (zip range (range_with_len 1 (length range)))
-
--- the primal of a tableau over a range: the indices with a number above 0
-abbrev pub primal_over : Entry → Bool → List ℕ → Tableau → PrimalValue
-primal_over e even range t = record {
+-- the primal of a tableau over a range of indices: those with a number above 0
+abbrev pub run_primal : Entry → Bool → List ℕ → Tableau → PrimalValue
+run_primal e even range t = record {
   entry = e;
   even = even;
   q = pos (run_scale (length range) t);
-  a = filter (λ u. int_lt (pos 0) u.1) (numbers_of_range range t);
+  a = filter
+      (λ u. int_lt (pos 0) u.1)
+      (map (λ v. (v.0, pos (number_at_place (run_scale (length range) t) (zip t.rows t.basics) v.1))) (zip range (range_with_len 1 (length range))));
 }
-
--- the same over the range of the entry
-abbrev pub run_primal : Entry → Bool → Tableau → PrimalValue
-run_primal e even t = primal_over e even (range_of e even) t

@@ -1,10 +1,14 @@
 -- What each row of a run is: a sum of the opening rows.
 use Rattle.std.specs.Prelude.{◌≡◌, ℕ, zero, suc, List, map, length, Option, Some, None, All, ℤ, pos, ◌+ℤ◌, ◌*ℤ◌, ◌≤ℤ◌}
 use Rattle.ct_words.specs.Counting.Alternating.{total_below}
-use Rattle.ct_finder.specs.Column.{Column, Tableau, cost_entry, opening_row}
+use Rattle.ct_finder.specs.Column.{Column, Tableau, cost_entry, opening_entry}
 use Rattle.ct_finder.specs.Column.Column.{Z, S}
 use Rattle.ct_finder.specs.Pivot.{entering, pivot_row, pivoted}
 use Rattle.ct_finder.specs.Run.{coefficient}
+
+-- the opening row of k, as the list of its entries
+abbrev pub opening_row : (ℕ → ℕ → ℤ) → List Column → ℕ → List ℤ
+opening_row number cs k = map (opening_entry number k) cs
 
 -- the sum of the opening rows, each times the row's entry at that opening row's s_k, the cost row times its entry at z; at a column
 abbrev pub sum_of_opening : (ℕ → ℕ → ℤ) → List Column → ℕ → List ℤ → Column → ℤ

@@ -1,7 +1,8 @@
 //! How a run ends, with the multipliers of its dual and what is read of its primal.
+ghost use Rattle.ct_finder.specs.Inside.Rows.{multipliers_of};
 ghost use Rattle.std.specs.Prelude.{◌≡◌, ◌≤◌, ℕ, pos, ◌≤ℤ◌, length, All, IfOk};
 ghost use Rattle.ct_finder.specs.Column.{columns, opening};
-ghost use Rattle.ct_finder.specs.Run.{run, multipliers_of};
+ghost use Rattle.ct_finder.specs.Run.{run};
 ghost use Rattle.ct_finder.specs.Ending.{ending_of};
 
 use crate::opening::opening;

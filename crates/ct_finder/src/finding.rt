@@ -1,13 +1,13 @@
 //! Duals of entries, found.
-ghost use Rattle.std.specs.Prelude.{◌≡◌, ◌≤◌, replicate, suc, [], pos, false, None, Option, IfOk, IfSome, option_map, unwrap_or};
+ghost use Rattle.std.specs.Prelude.{◌≡◌, ◌≤◌, replicate, suc, [], pos, false, None, Some, Option, IfOk, IfSome, option_map, unwrap_or};
 ghost use Rattle.ct_words.specs.Code.{IsTrueUpper};
 ghost use Rattle.ct_words.specs.Entry.{IsEntry, unrestricted, constant_weight};
 ghost use Rattle.ct_duals.specs.Dual.{IsDual};
 ghost use Rattle.ct_duals.specs.Check.{dual_fault};
 ghost use Rattle.ct_words.specs.Numbers.{numbers_of};
-ghost use Rattle.ct_finder.specs.Run.{IsAsked};
+ghost use Rattle.ct_finder.specs.Run.{IsAsked, run_of};
 ghost use Rattle.ct_primal.specs.Primal.{PrimalValue};
-ghost use Rattle.ct_finder.specs.Found.{end_of_run, dual_of, least_dual, bound_of_dual, stop_of, IsShown, IsLeast};
+ghost use Rattle.ct_finder.specs.Found.{dual_at_end, bound_without_allowances, stop_of, IsShown, IsLeast};
 ghost use Rattle.ct_finder.specs.Ending.{multipliers_from, stop_from, stop_read};
 
 use crate::ending::{Ending, run_over};
@@ -26,9 +26,9 @@ use std::alloc::{AllocError, Global};
 /// entry with the same mark that allows nothing has a smaller one. `Err` is want of memory.
 pub fn find(alloc: Global, n: u32, d: u32, even: bool, pivots: u32) -> Result<Found, AllocError>
     requires { IsAsked (unrestricted n d) even }
-    ensures dual { IfOk result (λ f. f.dual ≡ dual_of (unrestricted n d) even (end_of_run (unrestricted n d) even pivots)) }
-    ensures bound { IfOk result (λ f. f.bound ≡ bound_of_dual f.dual) }
-    ensures stop { IfOk result (λ f. f.stop ≡ stop_of (unrestricted n d) even pivots (end_of_run (unrestricted n d) even pivots)) }
+    ensures dual { IfOk result (λ f. Some f.dual ≡ dual_at_end (unrestricted n d) even (run_of (numbers_of (unrestricted n d)) (unrestricted n d) even pivots)) }
+    ensures bound { IfOk result (λ f. f.bound ≡ bound_without_allowances f.dual) }
+    ensures stop { IfOk result (λ f. f.stop ≡ stop_of (unrestricted n d) even pivots (run_of (numbers_of (unrestricted n d)) (unrestricted n d) even pivots)) }
     ensures shown { IfOk result (λ f. IsShown f.stop f.dual) }
     ensures least { IfOk result (λ f. (p : PrimalValue) → f.stop ≡ Stop.Least p → IsLeast f.dual) }
     ensures form { IfOk result (λ f. IsDual f.dual) }
@@ -56,10 +56,10 @@ pub fn find_weight(
 ) -> Result<Option<Found>, AllocError>
     requires { IsEntry (constant_weight n d w) }
     ensures dual { IfOk result (λ o. option_map (λ f. f.dual) o ≡
-        least_dual (constant_weight n d w) (end_of_run (constant_weight n d w) false pivots)) }
-    ensures bound { IfOk result (λ o. IfSome o (λ f. f.bound ≡ bound_of_dual f.dual)) }
+        dual_at_end (constant_weight n d w) false (run_of (numbers_of (constant_weight n d w)) (constant_weight n d w) false pivots)) }
+    ensures bound { IfOk result (λ o. IfSome o (λ f. f.bound ≡ bound_without_allowances f.dual)) }
     ensures stop { IfOk result (λ o. IfSome o (λ f.
-        f.stop ≡ stop_of (constant_weight n d w) false pivots (end_of_run (constant_weight n d w) false pivots))) }
+        f.stop ≡ stop_of (constant_weight n d w) false pivots (run_of (numbers_of (constant_weight n d w)) (constant_weight n d w) false pivots))) }
     ensures shown { IfOk result (λ o. IfSome o (λ f. IsShown f.stop f.dual)) }
     ensures least { IfOk result (λ o. IfSome o (λ f. (p : PrimalValue) → f.stop ≡ Stop.Least p → IsLeast f.dual)) }
     ensures form { IfOk result (λ o. IfSome o (λ f. IsDual f.dual)) }
@@ -83,7 +83,7 @@ fn found(alloc: Global, entry: Entry, even: bool, c: Multipliers, stop: Stop) ->
     requires form { IsDual (record { entry = entry; even = even; c = c; y = [] }) }
     requires accepted { dual_fault (numbers_of entry) (record { entry = entry; even = even; c = c; y = [] }) ≡ None }
     ensures dual { result.dual ≡ record { entry = entry; even = even; c = c; y = [] } }
-    ensures bound { result.bound ≡ bound_of_dual result.dual }
+    ensures bound { result.bound ≡ bound_without_allowances result.dual }
     ensures stop { result.stop ≡ stop }
     ensures true_upper { IsTrueUpper entry result.bound }
 {
@@ -98,7 +98,7 @@ fn bound(dual: &Dual) -> u32
     requires form { IsDual dual.now }
     requires accepted { dual_fault (numbers_of dual.now.entry) dual.now ≡ None }
     requires nothing { dual.now.y ≡ [] }
-    ensures value { result ≡ bound_of_dual dual.now }
+    ensures value { result ≡ bound_without_allowances dual.now }
     ensures true_upper { IsTrueUpper dual.now.entry result }
 {
     let Ok(accepted) = check_dual_of_table(dual) else {

@@ -1,8 +1,10 @@
 //! The opening tableau of a run.
+ghost use Rattle.ct_finder.specs.Sum.{opening_row};
+ghost use Rattle.ct_finder.specs.Inside.Rows.{rows_to};
 ghost use Rattle.std.specs.Prelude.{◌≡◌, ◌≤◌, ◌<◌, ◌++◌, ◌==◌, suc, cond, replicate, pos, neg_ℤ, All, map, IfOk, OnOk};
 ghost use Rattle.ct_words.specs.Entry.{IsEntry};
 ghost use Rattle.ct_words.specs.Scheme.{IsSmall};
-ghost use Rattle.ct_finder.specs.Column.{range_of, rows_to, columns, place_of, cost_entry, opening_row, opening};
+ghost use Rattle.ct_finder.specs.Column.{range_of, columns, place_of_column, cost_entry, opening};
 ghost use Rattle.ct_finder.specs.Column.Column.{S as SColumn};
 ghost use Rattle.ct_finder.specs.Ready.{seen, IsReady};
 
@@ -139,7 +141,7 @@ fn number<S: Scheme>(scheme: &S, k: u32, i: u32) -> i64
 /// The places of the basic columns: that of s_k for the row of k.
 fn opening_basics(alloc: Global, range: &[u32], degree: u32) -> Result<Vec<usize>, AllocError>
     ensures { IfOk result (λ basics. basics.items ≡
-        map (λ k. place_of (SColumn k) (columns range.now degree)) (rows_to degree)) }
+        map (λ k. place_of_column (SColumn k) (columns range.now degree)) (rows_to degree)) }
 {
     let mut basics = Vec::with_capacity(alloc, degree as usize)?;
     for before in 0..degree as usize {

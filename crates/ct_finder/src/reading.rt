@@ -1,4 +1,5 @@
 //! The primal of a run, read off the tableau that it ends with.
+ghost use Rattle.ct_finder.specs.Inside.Numbers.{numbers_of_range};
 ghost use Rattle.std.specs.Prelude.{◌≡◌, ◌≤◌, ◌<◌, ◌*◌, ◌/◌, ◌^◌, ◌++◌, pos, ◌≤ℤ◌, int_lt, length, filter, get_or, [], ◌∷◌, None, IfOk, IfSome, OnOk};
 ghost use Rattle.std.specs.Result.{result_err};
 ghost use Rattle.ct_finder.specs.Divisor.{gcd as gcd_of_both};
@@ -6,7 +7,7 @@ ghost use Rattle.ct_duals.specs.Bound.{natural};
 ghost use Rattle.ct_finder.specs.Pivot.{at, constant_of};
 ghost use Rattle.ct_finder.specs.Sum.{HasWidth};
 ghost use Rattle.ct_finder.specs.Basic.{AreBasic};
-ghost use Rattle.ct_finder.specs.RunPrimal.{run_scale, number_at_place, numbers_of_range};
+ghost use Rattle.ct_finder.specs.RunPrimal.{run_scale, number_at_place};
 ghost use Rattle.ct_finder.specs.Ready.{seen};
 ghost use Rattle.ct_finder.specs.Reading.{large, large_after, large_number, large_scale, line_of, lines_seen, number_over, reading_of, scale_after};
 

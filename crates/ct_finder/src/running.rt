@@ -1,7 +1,8 @@
 //! The run over a tableau.
 ghost use Rattle.std.specs.Prelude.{◌≡◌, ℕ, List, length, None};
 ghost use Rattle.ct_finder.specs.Column.{columns};
-ghost use Rattle.ct_finder.specs.Run.{step, run};
+ghost use Rattle.ct_finder.specs.Run.{run};
+ghost use Rattle.ct_finder.specs.Inside.Step.{step};
 ghost use Rattle.ct_finder.specs.Ready.{seen, IsReady, step_of, end_of};
 
 use crate::pivot::{entering, pivot_row};

@@ -1,4 +1,5 @@
 -- The document of a proposal is accepted.
+use Rattle.ct_find.specs.Inside.Texts.{dual_evidence}
 use Rattle.std.proofs.Common.{◌≡◌, ◌≢◌, ◌∙◌, ℕ, ◌<◌, ◌≤◌, List, [], length, Option, Some, None, option_map, Ok, refl, sym, ap, subst, arith, lit<}
 use Rattle.std.specs.Prelude.{All}
 use Rattle.std.proofs.lemmas.List.Elements.{All-nil}
@@ -19,7 +20,7 @@ use Rattle.ct_kind.specs.declared.fault.SubmitFault.TheVariants as fault
 use Rattle.ct_piece.specs.declared.limits.TheConstants.{MAX_PIECES, MAX_STORED}
 use Rattle.ct_piece.proofs.Accepting.{not_taken}
 use Rattle.ct_piece.proofs.StandingLemmas.{submitted-from}
-use Rattle.ct_find.specs.Proposal.{dual_evidence, find_id, found_dual}
+use Rattle.ct_find.specs.Proposal.{find_id, found_dual}
 use Rattle.ct_laws.specs.Proposed.{proposed_piece}
 use Rattle.ct_find.proofs.FoundDuals.{found}
 

@@ -1,18 +1,19 @@
 -- Two outputs of the mode for one input.
+use Rattle.ct_find.specs.Inside.Replies.{IsReplyToEntry, IsReplyToNumbers, IsReplyToWords}
 use Rattle.std.proofs.Common.{◌≡◌, ℕ, Bool, ◌||◌, List, [], ◌∷◌, Option, Some, None, sym, ap₂, ◌∙◌, inl, inr}
 use Rattle.ct_words.specs.declared.entry.Entry.{Entry}
 use Rattle.ct_duals.specs.declared.dual.Dual.{Dual}
 use Rattle.ct_text.specs.Line.{words_of}
 use Rattle.ct_text.specs.EntryNumbers.{entry_numbers_of, named_entry}
 use Rattle.ct_text.specs.declared.entry_numbers.EntryNumbers.{EntryNumbers}
-use Rattle.ct_finder.specs.Found.{bound_of_dual}
+use Rattle.ct_finder.specs.Found.{bound_without_allowances}
 use Rattle.ct_find.specs.Proposal.{AnswersEntry, comments, find_id, found_dual, stop_for}
-use Rattle.ct_find.specs.Reply.{IsReplyToEntry, IsReplyToNumbers, IsReplyToWords, AreFoundReplies, DifferInDocument, DifferInDocuments}
+use Rattle.ct_find.specs.Reply.{AreFoundReplies, DifferInDocument, DifferInDocuments}
 
 -- two answers for an entry
 alike_answers : (e : Entry) (found : Option Dual) (text other : List ℕ) → AnswersEntry e found text → AnswersEntry e found other → DifferInDocument text other
 alike_answers e None text other h k = inl (h ∙ sym k)
-alike_answers e (Some d) text other (h, shown) (k, again) = inr (comments (bound_of_dual d) (stop_for e), find_id e, h.0, k.0, h.1 ∙ sym k.1, h.2, k.2)
+alike_answers e (Some d) text other (h, shown) (k, again) = inr (comments (bound_without_allowances d) (stop_for e), find_id e, h.0, k.0, h.1 ∙ sym k.1, h.2, k.2)
 
 -- two replies
 alike_of_entry : (o : Option Entry) (text other : List ℕ) (a b : Bool) → IsReplyToEntry o text a → IsReplyToEntry o other b → DifferInDocument text other × (a ≡ b)

@@ -1,4 +1,5 @@
 -- The ids of proposals.
+use Rattle.ct_find.specs.Inside.Texts.{weight_part}
 use Rattle.std.proofs.Common.{◌≡◌, ◌∙◌, ℕ, ◌+◌, ◌%◌, ◌^◌, ◌<◌, ◌≤◌, Bool, true, false, List, [], ◌∷◌, ◌++◌, codes, length, length-append, append_assoc, append-nil, Option, Some, None, IfSome, refl, sym, ap, ap₂, arith, lit<, nat_le, le-leb}
 use Rattle.std.specs.Prelude.{◌&&◌, ◌==◌, All}
 use Rattle.std.specs.List.{list_all, slice_split}
@@ -17,7 +18,7 @@ use Rattle.ct_words.specs.Entry.{IsEntry}
 use Rattle.ct_words.proofs.EntryLemmas.{WeightFits, entry_limits}
 use Rattle.ct_names.specs.Id.{is_id, is_id_byte}
 use Rattle.ct_names.specs.declared.id.TheConstants.{MAX_ID}
-use Rattle.ct_find.specs.Proposal.{find_id, weight_part}
+use Rattle.ct_find.specs.Proposal.{find_id}
 
 -- the bytes are those of digits
 abbrev AreDigits : List ℕ → Type 0

@@ -1,4 +1,5 @@
 -- What `find` writes for entries leads to pieces of them.
+use Rattle.ct_find.specs.Inside.Texts.{dual_evidence, pair_text, pairs_text}
 use Rattle.std.proofs.Common.{◌≡◌, ◌≢◌, ◌∙◌, ℕ, ◌%◌, ◌/◌, ◌^◌, ◌<◌, ◌≤◌, ◌==◌, Bool, true, false, ◌&&◌, ◌||◌, not, nat_le, List, [], ◌∷◌, ◌++◌, map, length, get_or, codes, Option, Some, None, refl, sym, ap, subst, arith, lit<, append_assoc, append-nil, eq-eqb, leb-true}
 use Rattle.std.specs.Prelude.{All, AllPairs, IsTrue, fold, ℤ, pos, negsuc, ◌≤ℤ◌, ◌<ℤ◌, unsigned_abs}
 use Rattle.std.specs.List.{flat_map, list_all, AllByRecursion}
@@ -28,13 +29,13 @@ use Rattle.ct_finder.specs.Column.{range_of}
 use Rattle.ct_finder.specs.RunPrimal.{wide_number, run_primal}
 use Rattle.ct_finder.specs.Run.{End}
 use Rattle.ct_finder.specs.Run.End.{Least, Turns, Wide}
-use Rattle.ct_finder.specs.Found.{bound_of_dual, least_stop, stop_of, IsShown}
+use Rattle.ct_finder.specs.Found.{bound_without_allowances, stop_of, IsShown}
 use Rattle.ct_finder.specs.declared.found.Stop.{Stop}
 use Rattle.ct_finder.specs.declared.found.Stop.TheVariants as stop
 use Rattle.ct_find.specs.declared.found.TheConstants.{MAX_PIVOTS}
 use Rattle.ct_files.specs.Document.{without_cites}
 use Rattle.ct_files.proofs.Documents.{document_read_of-within}
-use Rattle.ct_find.specs.Proposal.{is_even, dual_evidence, find_id, found_dual, pair_text, pairs_text, primal_line, run_for, stop_for, stop_text}
+use Rattle.ct_find.specs.Proposal.{is_even, find_id, found_dual, primal_line, run_for, stop_for, stop_text}
 use Rattle.ct_laws.proofs.AcceptedProposals.{made-proposed, stored-none}
 use Rattle.ct_laws.proofs.FindIds.{find_id-named, find_id-different}
 use Rattle.ct_find.proofs.FoundDuals.{bound-is, shown}
@@ -158,12 +159,12 @@ stop_text-words (stop.Least p) = refl
 stop_text-words (stop.Turns turns) = ap (λ (t : List ℕ). codes " turns " ++ t) (append-nil (decimal turns))
 stop_text-words (stop.Wide x) = refl
 
-least_words : (o : Option ℤ) (p : PrimalValue) → AreWords (stop_words (least_stop o p))
+least_words : (o : Option ℤ) (p : PrimalValue) → AreWords (stop_words (elim o [ None ↦ stop.Least p | Some x ↦ stop.Wide x ]))
 least_words None p = (known_word (codes "least") refl, tt)
 least_words (Some x) p = (known_word (codes "wide") refl, tt)
 
 stop_words-are : (e : Entry) (even : Bool) (end : End) → AreWords (stop_words (stop_of e even MAX_PIVOTS end))
-stop_words-are e even (Least t) = least_words (wide_number (length (range_of e even)) t) (run_primal e even t)
+stop_words-are e even (Least t) = least_words (wide_number (length (range_of e even)) t) (run_primal e even (range_of e even) t)
 stop_words-are e even Turns = (known_word (codes "turns") refl, (decimal_word MAX_PIVOTS (lit< tt), tt))
 stop_words-are e even (Wide x) = (known_word (codes "wide") refl, tt)
 
@@ -247,7 +248,7 @@ primal-comment (stop.Least p) d after shown =
     ∙ ap commands_of (lines_of-next body after line)
     ∙ alone _ Nothing body (lines_of after) (form_of-primal p) refl
 
-bound_small : (e : Entry) (d : Dual) → IsEntry e → found_dual e ≡ Some d → bound_of_dual d < 2 ^ 64
+bound_small : (e : Entry) (d : Dual) → IsEntry e → found_dual e ≡ Some d → bound_without_allowances d < 2 ^ 64
 bound_small e d entry same =
     let is = bound-is e d entry same in
     let small = min-le_left MAX_BOUND (natural (combination (numbers_of e) d.c 0) / natural (multiplier d.c 0)) in
@@ -259,15 +260,15 @@ proposal-command : (e : Entry) (own rest : List ℕ) (h : IsProposed e own) → 
 proposal-command e own rest h entry =
     let p = piece e own h in
     let stopped = stop_text (stop_for e) in
-    let line = comment (bound_of_dual h.dual) stopped in
+    let line = comment (bound_without_allowances h.dual) stopped in
     let primal = primal_line (stop_for e) in
     let after = piece_dump p ++ rest in
     ap (λ t. commands_of (lines_of (t ++ rest))) h.proposal.2
     ∙ ap (λ t. commands_of (lines_of t))
     (append_assoc ((line ++ LINE_FEED ∷ []) ++ primal) (piece_dump p) rest ∙ append_assoc (line ++ LINE_FEED ∷ []) primal after
     ∙ append_assoc line (LINE_FEED ∷ []) (primal ++ after))
-    ∙ ap commands_of (lines_of-next line (primal ++ after) (IsLine-comment e (bound_of_dual h.dual) (bound_small e h.dual entry h.found)))
-    ∙ alone _ Nothing line (lines_of (primal ++ after)) (form_of-comment (bound_of_dual h.dual) stopped) refl
+    ∙ ap commands_of (lines_of-next line (primal ++ after) (IsLine-comment e (bound_without_allowances h.dual) (bound_small e h.dual entry h.found)))
+    ∙ alone _ Nothing line (lines_of (primal ++ after)) (form_of-comment (bound_without_allowances h.dual) stopped) refl
     ∙ primal-comment (stop_for e) h.dual after (shown e h.dual entry h.found)
     ∙ piece_dump-command p rest (within e own h) (find_id-named e entry)
 

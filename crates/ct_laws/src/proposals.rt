@@ -16,7 +16,7 @@ ghost use Rattle.ct_piece.specs.Piece.{PieceValue, stored_words};
 ghost use Rattle.ct_piece.specs.Submission.{submitted};
 ghost use Rattle.ct_piece.specs.declared.limits.TheConstants.{MAX_PIECES, MAX_STORED};
 ghost use Rattle.ct_primal.specs.Primal.{PrimalValue};
-ghost use Rattle.ct_finder.specs.Found.{bound_of_dual, IsShown, IsLeast};
+ghost use Rattle.ct_finder.specs.Found.{bound_without_allowances, IsShown, IsLeast};
 ghost use Rattle.ct_finder.specs.declared.found.Stop.{Stop};
 ghost use Rattle.ct_find.specs.Proposal.{find_id, found_dual, stop_for, IsProposal};
 ghost use Rattle.ct_find.specs.Reply.{IsFound, DifferInDocuments};
@@ -34,11 +34,11 @@ pub fn found_duals_bound_codes()
         (d.even ≡ true) ↔ ((e.w ≡ None) × (e.d % 2 ≡ 0)) }
     ensures nothing_allowed { (e : Entry) (d : Dual) → IsEntry e → found_dual e ≡ Some d → d.y ≡ [] }
     ensures bound { (e : Entry) (d : Dual) → IsEntry e → found_dual e ≡ Some d →
-        bound_of_dual d ≡ min MAX_BOUND (natural (combination (numbers_of e) d.c 0) / natural (multiplier d.c 0)) }
+        bound_without_allowances d ≡ min MAX_BOUND (natural (combination (numbers_of e) d.c 0) / natural (multiplier d.c 0)) }
     ensures shown { (e : Entry) (d : Dual) → IsEntry e → found_dual e ≡ Some d → IsShown (stop_for e) d }
     ensures least { (e : Entry) (d : Dual) (p : PrimalValue) → IsEntry e → found_dual e ≡ Some d → stop_for e ≡ Stop.Least p → IsLeast d }
     ensures no_premises { (e : Entry) (d : Dual) → IsEntry e → found_dual e ≡ Some d → dual_premises d ≡ [] }
-    ensures true_upper { (e : Entry) (d : Dual) → IsEntry e → found_dual e ≡ Some d → IsTrueUpper e (bound_of_dual d) }
+    ensures true_upper { (e : Entry) (d : Dual) → IsEntry e → found_dual e ≡ Some d → IsTrueUpper e (bound_without_allowances d) }
     ensures without_weight { (e : Entry) → e.w ≡ None → IsSome (found_dual e) }
 {}
 

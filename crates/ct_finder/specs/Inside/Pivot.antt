@@ -1,6 +1,11 @@
 -- The best of the first candidates for the pivot row.
-use Rattle.std.specs.Prelude.{ℕ, Bool, ◌&&◌, List, [], get_or, Option, Some, None, ℤ}
+use Rattle.std.specs.Prelude.{ℕ, Bool, not, ◌&&◌, List, [], get_or, Option, Some, None, ℤ}
+use Rattle.std.specs.List.{list_all}
 use Rattle.ct_finder.specs.Pivot.{is_candidate, comes_before}
+
+-- no candidate comes before the row
+abbrev pub is_unbeaten : ℕ → List (List ℤ × ℕ) → List ℤ × ℕ → Bool
+is_unbeaten e lines l = list_all (λ m. not (is_candidate e m && comes_before e m l)) lines
 
 -- the row at a place, with its basic column; an empty one where there is none
 abbrev pub line_at : List (List ℤ × ℕ) → ℕ → List ℤ × ℕ

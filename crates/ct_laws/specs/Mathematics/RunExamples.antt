@@ -1,9 +1,9 @@
 -- Runs whose ends are known.
-use Rattle.std.specs.Prelude.{ℕ, ◌+◌, ◌-◌, ◌^◌, false, List, [], ◌∷◌, map, pos, negsuc}
+use Rattle.std.specs.Prelude.{ℕ, ◌+◌, ◌-◌, ◌^◌, false, List, [], ◌∷◌, map, ℤ, pos, negsuc}
 use Rattle.ct_words.specs.Entry.{unrestricted, constant_weight}
 use Rattle.ct_duals.specs.declared.dual.Dual.{Dual}
 use Rattle.ct_words.specs.Numbers.{numbers_of}
-use Rattle.ct_finder.specs.Column.{Tableau}
+use Rattle.ct_finder.specs.Column.{Tableau, range_of}
 use Rattle.ct_finder.specs.Run.{End, run_of, run_dual}
 use Rattle.ct_finder.specs.RunPrimal.{run_primal}
 use Rattle.ct_primal.specs.Primal.{PrimalValue}
@@ -31,7 +31,7 @@ dual_eight_four_four = run_dual (constant_weight 8 4 4) false last_eight_four_fo
 
 -- and its primal
 abbrev pub primal_eight_four_four : PrimalValue
-primal_eight_four_four = run_primal (constant_weight 8 4 4) false last_eight_four_four
+primal_eight_four_four = run_primal (constant_weight 8 4 4) false (range_of (constant_weight 8 4 4) false) last_eight_four_four
 
 -- the same for A(6,3)
 abbrev pub run_six_three : ℕ → End
@@ -58,7 +58,7 @@ dual_six_three = run_dual (unrestricted 6 3) false last_six_three.cost
 
 -- and its primal
 abbrev pub primal_six_three : PrimalValue
-primal_six_three = run_primal (unrestricted 6 3) false last_six_three
+primal_six_three = run_primal (unrestricted 6 3) false (range_of (unrestricted 6 3) false) last_six_three
 
 -- the same for A(8,4), at all distances from 4 on; in four of its pivots several rows have the least fraction
 abbrev pub run_eight_four : ℕ → End
@@ -87,7 +87,7 @@ dual_eight_four = run_dual (unrestricted 8 4) false last_eight_four.cost
 
 -- and its primal
 abbrev pub primal_eight_four : PrimalValue
-primal_eight_four = run_primal (unrestricted 8 4) false last_eight_four
+primal_eight_four = run_primal (unrestricted 8 4) false (range_of (unrestricted 8 4) false) last_eight_four
 
 -- three rows and a cost row: 2^63 - 1 and -(2^63 - 1) are not wide; -2^63 and 2^63 in the second row, 2^63 + 1 in the third, 2^63 in the cost row are
 abbrev pub wide_tableau : Tableau
@@ -108,6 +108,10 @@ wide_cost_tableau = record { rows = (pos (2 ^ 63 - 1) ∷ pos 0 ∷ pos 0 ∷ []
 -- the same with a cost row that has no wide entry
 abbrev pub narrow_tableau : Tableau
 narrow_tableau = record { rows = (pos (2 ^ 63 - 1) ∷ pos 0 ∷ pos 0 ∷ []) ∷ []; basics = 0 ∷ []; cost = pos 0 ∷ pos 1 ∷ pos 0 ∷ [] }
+
+-- a row with 3 and this constant beside its basic column s_1, and a cost row
+abbrev pub one_row : ℕ → List ℤ → Tableau
+one_row constant cost = record { rows = (pos 0 ∷ pos 3 ∷ pos constant ∷ []) ∷ []; basics = 1 ∷ []; cost = cost }
 
 -- rows whose basic column is the first a, with different primes as entries there, and as many basic columns
 abbrev pub prime_rows : List ℕ → Tableau

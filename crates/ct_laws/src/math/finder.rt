@@ -4,7 +4,7 @@ ghost use Rattle.std.specs.Int.{◌∣◌, IsGcd};
 ghost use Rattle.ct_words.specs.declared.limits.TheConstants.{MAX_BOUND};
 ghost use Rattle.ct_words.specs.declared.entry.Entry.{Entry};
 ghost use Rattle.ct_words.specs.Entry.{unrestricted};
-ghost use Rattle.ct_finder.specs.Column.{Tableau};
+ghost use Rattle.ct_finder.specs.Column.{Tableau, columns, range_of, opening};
 ghost use Rattle.ct_words.specs.Numbers.{krawtchouk, multiplier, combination};
 ghost use Rattle.ct_duals.specs.Dual.{IsDual, degree_of};
 ghost use Rattle.ct_duals.specs.Check.{dual_fault};
@@ -12,20 +12,18 @@ ghost use Rattle.ct_duals.specs.Bound.{dual_bound, natural};
 ghost use Rattle.ct_finder.specs.Divisor.{gcd, divisor, reduced};
 ghost use Rattle.ct_finder.specs.Pivot.{first_wide};
 ghost use Rattle.ct_finder.specs.Run.End.{Least, Turns, Wide};
-ghost use Rattle.ct_finder.specs.Run.Step.{ended, goes};
-ghost use Rattle.ct_finder.specs.Run.{unless_wide};
-ghost use Rattle.ct_finder.specs.Run.{run_of, columns_of, opening_of, run_dual, ones_dual, IsAsked};
+ghost use Rattle.ct_finder.specs.Run.{run, run_of, run_dual, ones_dual, IsAsked};
 ghost use Rattle.ct_finder.specs.Sum.{AreSums, after};
 ghost use Rattle.ct_finder.specs.Basic.{Solves, AreBasic};
 ghost use Rattle.ct_finder.specs.RunPrimal.{run_primal, wide_number, numbers_made};
 ghost use Rattle.ct_primal.specs.Primal.{IsPrimal, IsSound, primal_value};
-ghost use Rattle.ct_laws.specs.Mathematics.RunExamples.{run_eight_four_four, last_eight_four_four, dual_eight_four_four, run_six_three, last_six_three, dual_six_three, run_eight_four, last_eight_four, dual_eight_four, wide_tableau, wide_cost_tableau, narrow_tableau, primal_eight_four_four, primal_six_three, primal_eight_four, wide_scale_tableau, wide_number_tableau};
+ghost use Rattle.ct_laws.specs.Mathematics.RunExamples.{run_eight_four_four, last_eight_four_four, dual_eight_four_four, run_six_three, last_six_three, dual_six_three, run_eight_four, last_eight_four, dual_eight_four, wide_tableau, wide_cost_tableau, narrow_tableau, one_row, primal_eight_four_four, primal_six_three, primal_eight_four, wide_scale_tableau, wide_number_tableau};
 
 /// Each row of a tableau of a run is the sum of the opening rows, each times the row's entry at that opening row's s_k;
 /// the cost row alone has the opening cost row in it, at least once.
 pub fn rows_are_sums_of_opening_rows()
     ensures { (number : ℕ → ℕ → ℤ) (e : Entry) (even : Bool) (pivots : ℕ) →
-        AreSums number (columns_of e even) (degree_of e) (after (columns_of e even) pivots (opening_of number e even)) }
+        AreSums number (columns (range_of e even) (degree_of e)) (degree_of e) (after (columns (range_of e even) (degree_of e)) pivots (opening number (range_of e even) (degree_of e))) }
 {}
 
 /// Where a run ends as least, its dual has the form of one, is accepted, and has the bound ⌊f(0)/c_0⌋, limited by
@@ -57,13 +55,13 @@ pub fn ones_are_accepted()
 /// value is the bound of the run's dual. So no accepted dual of the entry with the same mark that allows nothing has a smaller one.
 pub fn least_primals_are_sound()
     ensures form { (e : Entry) (even : Bool) (last : Tableau) → IsAsked e even →
-        IsPrimal (run_primal e even last) }
+        IsPrimal (run_primal e even (range_of e even) last) }
     ensures sound { (number : ℕ → ℕ → ℤ) (e : Entry) (even : Bool) (pivots : ℕ) (last : Tableau) →
         ((k : ℕ) → k ≤ degree_of e → pos 0 ≤ℤ number k 0) → run_of number e even pivots ≡ Least last →
-        IsSound number (run_primal e even last) }
+        IsSound number (run_primal e even (range_of e even) last) }
     ensures value { (number : ℕ → ℕ → ℤ) (e : Entry) (even : Bool) (pivots : ℕ) (last : Tableau) →
         ((k : ℕ) → k ≤ degree_of e → pos 0 ≤ℤ number k 0) → number 0 0 ≡ pos 1 → run_of number e even pivots ≡ Least last →
-        primal_value (run_primal e even last) ≡
+        primal_value (run_primal e even (range_of e even) last) ≡
         dual_bound (run_dual e even last.cost) (combination number (run_dual e even last.cost).c 0) [] }
 {}
 
@@ -117,16 +115,17 @@ pub fn known_wide_entries()
     ensures in_a_row { first_wide wide_tableau ≡ Some (negsuc (2 ^ 63 - 1)) }
     ensures in_the_cost_row { first_wide wide_cost_tableau ≡ Some (pos (2 ^ 63)) }
     ensures none { first_wide narrow_tableau ≡ None }
-    ensures ends { unless_wide (first_wide wide_tableau) wide_tableau ≡ ended (Wide (negsuc (2 ^ 63 - 1))) }
-    ensures goes_on { unless_wide (first_wide narrow_tableau) narrow_tableau ≡ goes narrow_tableau }
+    ensures ends { run (columns [] 1) 1 (one_row (2 ^ 62) (pos 1 ∷ negsuc 1 ∷ pos 0 ∷ [])) ≡ Wide (pos (2 ^ 63)) }
+    ensures goes_on { run (columns [] 1) 1 (one_row (2 ^ 61) (pos 1 ∷ negsuc 1 ∷ pos 0 ∷ [])) ≡
+        Least (one_row (2 ^ 61) (pos 3 ∷ pos 0 ∷ pos (2 ^ 62) ∷ [])) }
 {}
 
 /// Numbers at places that solve the tableau after some pivots solve the opening tableau; where no number of the scheme at index 0 is
 /// below 0, each row of it has a constant of at least 0, and its basic column to itself.
 pub fn solutions_of_rows_solve_opening_rows()
     ensures solutions { (number : ℕ → ℕ → ℤ) (e : Entry) (even : Bool) (pivots : ℕ) (x : List (ℕ × ℤ)) →
-        Solves x (after (columns_of e even) pivots (opening_of number e even)) → Solves x (opening_of number e even) }
+        Solves x (after (columns (range_of e even) (degree_of e)) pivots (opening number (range_of e even) (degree_of e))) → Solves x (opening number (range_of e even) (degree_of e)) }
     ensures basic { (number : ℕ → ℕ → ℤ) (e : Entry) (even : Bool) (pivots : ℕ) →
         ((k : ℕ) → k ≤ degree_of e → pos 0 ≤ℤ number k 0) →
-        AreBasic (length (columns_of e even)) (after (columns_of e even) pivots (opening_of number e even)) }
+        AreBasic (length (columns (range_of e even) (degree_of e))) (after (columns (range_of e even) (degree_of e)) pivots (opening number (range_of e even) (degree_of e))) }
 {}

@@ -1,5 +1,5 @@
+use Rattle.ct_find.specs.Inside.Texts.{pairs_text}
 use Rattle.std.proofs.Common.{◌≡◌, ◌++◌, drop}
-use Rattle.ct_find.specs.Proposal.{pairs_text}
 use Rattle.ct_find.proofs.proposal.put_pairs.Given as goal
 
 -- with the pairs that are left the text is whole

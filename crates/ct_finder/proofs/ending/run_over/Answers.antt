@@ -1,3 +1,4 @@
+use Rattle.ct_finder.specs.Inside.Rows.{multipliers_of}
 use Rattle.std.proofs.Common.{rules, ℕ, List, length, sym, ap, ap₂, ◌∙◌, subst}
 use Rattle.std.specs.Prelude.{ℤ}
 use Rattle.std.proofs.lemmas.List.{length-map}
@@ -5,7 +6,7 @@ use Rattle.std.proofs.lemmas.Int.{to_z-of_z}
 use mir.Val.{SFits}
 use mir.Syntax.{w128}
 use Rattle.ct_finder.specs.Column.{columns, cost_entry}
-use Rattle.ct_finder.specs.Run.{run, multipliers_of}
+use Rattle.ct_finder.specs.Run.{run}
 use Rattle.ct_finder.specs.Sum.{HasWidth}
 use Rattle.ct_finder.specs.Basic.{AreBasic}
 use Rattle.ct_finder.specs.Ready.{seen}

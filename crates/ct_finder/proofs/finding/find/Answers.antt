@@ -1,15 +1,16 @@
 use Rattle.std.proofs.Common.{◌≡◌, ℕ, ◌≤◌, List, sym, ap, ◌∙◌, subst}
-use Rattle.std.specs.Prelude.{All, Option, None, ℤ, pos, suc, replicate, unwrap_or}
+use Rattle.std.specs.Prelude.{All, Option, None, Some, ℤ, pos, suc, replicate, unwrap_or}
 use Rattle.ct_words.specs.Entry.{unrestricted}
 use Rattle.ct_duals.specs.declared.dual.Dual.{Dual}
 use Rattle.ct_duals.specs.Dual.{IsDual}
 use Rattle.ct_duals.specs.Check.{dual_fault}
 use Rattle.ct_words.specs.Numbers.{numbers_of}
 use Rattle.ct_finder.proofs.OpeningLemmas.{range-within}
+use Rattle.ct_finder.specs.Run.{run_of}
 use Rattle.ct_finder.specs.Found.{IsShown}
 use Rattle.ct_finder.specs.declared.found.Stop.{Stop}
 use Rattle.ct_finder.proofs.Schemes.{numbers-nonneg}
-use Rattle.ct_finder.proofs.FoundLemmas.{plain-found, stop-least}
+use Rattle.ct_finder.proofs.FoundLemmas.{plain-found, plain-end, stop-least}
 use Rattle.ct_finder.proofs.finding.find.Goals as goal
 
 -- the multipliers, or ones, as the parts of the ending give them
@@ -42,7 +43,8 @@ returns-clause-dual c =
     let e = unrestricted c.args.n c.args.d in
     let known = plain-found c.args.n c.args.d c.args.even c.args.pivots c.deref.result.now c.in_ok-ending.ending c.in_ok-c.c c.parts-multipliers.result.1 c.requires
     (c.deref.ensures.value ∙ c.in_ok-range.ensures) c.in_ok-ending.ensures (multipliers_is (replicate (suc c.args.n) (pos 1)) c.parts-multipliers.ensures.multipliers c.in_ok-c.ensures) c.parts-multipliers.ensures.stop in
-    c.found.ensures.dual ∙ known.dual
+    ap Some (c.found.ensures.dual ∙ known.dual)
+    ∙ plain-end c.args.n c.args.d c.args.even (run_of (numbers_of (unrestricted c.args.n c.args.d)) (unrestricted c.args.n c.args.d) c.args.even c.args.pivots)
 
 pub returns-clause-stop : goal.returns-clause-stop
 returns-clause-stop c =

@@ -6,10 +6,11 @@ use Rattle.ct_duals.specs.Dual.{IsDual, degree_of}
 use Rattle.ct_duals.specs.Check.{dual_fault}
 use Rattle.ct_words.specs.Numbers.{numbers_of}
 use Rattle.ct_finder.proofs.OpeningLemmas.{range-within}
+use Rattle.ct_finder.specs.Run.{run_of}
 use Rattle.ct_finder.specs.Found.{IsShown}
 use Rattle.ct_finder.specs.declared.found.Stop.{Stop}
 use Rattle.ct_finder.proofs.Schemes.{numbers-nonneg}
-use Rattle.ct_finder.proofs.FoundLemmas.{weighted-found, weighted-none, stop-least}
+use Rattle.ct_finder.proofs.FoundLemmas.{weighted-found, weighted-none, weighted-end, stop-least}
 use Rattle.ct_finder.proofs.finding.find_weight.Goals as goal
 
 pub run_over-requires : goal.run_over-requires
@@ -24,6 +25,7 @@ pub returns-in-None-clause-dual : goal.returns-in-None-clause-dual
 returns-in-None-clause-dual c =
     weighted-none (constant_weight c.args.n c.args.d c.args.w) c.args.pivots c.deref.result.now c.in_ok-ending.ending
     (c.deref.ensures.value ∙ c.in_ok-range.ensures) c.in_ok-ending.ensures (sym c.in-None.is ∙ c.parts-multipliers.ensures.multipliers)
+    ∙ weighted-end c.args.n c.args.d c.args.w (run_of (numbers_of (constant_weight c.args.n c.args.d c.args.w)) (constant_weight c.args.n c.args.d c.args.w) false c.args.pivots)
 
 pub found-requires-clause-form : goal.found-requires-clause-form
 found-requires-clause-form c =
@@ -42,6 +44,7 @@ returns-clause-dual c =
     let known = weighted-found c.args.n c.args.d c.args.w c.args.pivots c.deref.result.now c.in_ok-ending.ending c.in-Some.c c.parts-multipliers.result.1 c.requires
     (c.deref.ensures.value ∙ c.in_ok-range.ensures) c.in_ok-ending.ensures (sym c.in-Some.is ∙ c.parts-multipliers.ensures.multipliers) c.parts-multipliers.ensures.stop in
     ap Some c.found.ensures.dual ∙ known.dual
+    ∙ weighted-end c.args.n c.args.d c.args.w (run_of (numbers_of (constant_weight c.args.n c.args.d c.args.w)) (constant_weight c.args.n c.args.d c.args.w) false c.args.pivots)
 
 pub returns-clause-form : goal.returns-clause-form
 returns-clause-form c =

@@ -1,6 +1,7 @@
+use Rattle.ct_finder.specs.Inside.Rows.{rows_to}
 use Rattle.std.proofs.Common.{ℕ, map, length, ap, ◌∙◌}
 use Rattle.std.proofs.lemmas.List.{length-map}
-use Rattle.ct_finder.specs.Column.{rows_to, columns, place_of, cost_entry}
+use Rattle.ct_finder.specs.Column.{columns, place_of_column, cost_entry}
 use Rattle.ct_finder.specs.Column.Column.{S}
 use Rattle.ct_finder.proofs.OpeningLemmas.{ready-opening}
 use Rattle.ct_finder.proofs.opening.opening.Goals as goal
@@ -9,7 +10,7 @@ pub returns-clause-value : goal.returns-clause-value
 returns-clause-value g c =
     let range = c.args.range.now in
     let count = c.degree-degree.ensures in
-    let basics = c.in_ok-basics.ensures ∙ ap (λ (d : ℕ). map (λ k. place_of (S k) (columns range d)) (rows_to d)) count in
+    let basics = c.in_ok-basics.ensures ∙ ap (λ (d : ℕ). map (λ k. place_of_column (S k) (columns range d)) (rows_to d)) count in
     let cost = c.in_ok-cost.ensures ∙ ap (λ (d : ℕ). map cost_entry (columns range d)) count in
     λ i. record { rows = c.in_ok-rows.ensures i; basics = basics i; cost = cost i }
 
@@ -18,7 +19,7 @@ returns-clause-ready g c =
     let s = c.args.scheme.now in
     let range = c.args.range.now in
     let count = c.degree-degree.ensures in
-    let basics = c.in_ok-basics.ensures ∙ ap (λ (d : ℕ). map (λ k. place_of (S k) (columns range d)) (rows_to d)) count in
+    let basics = c.in_ok-basics.ensures ∙ ap (λ (d : ℕ). map (λ k. place_of_column (S k) (columns range d)) (rows_to d)) count in
     let cost = c.in_ok-cost.ensures ∙ ap (λ (d : ℕ). map cost_entry (columns range d)) count in
     let pivot = c.in_ok-pivot.ensures ∙ ap (λ (d : ℕ). map cost_entry (columns range d)) count in
     ready-opening

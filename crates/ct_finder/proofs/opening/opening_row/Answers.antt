@@ -1,8 +1,10 @@
+use Rattle.ct_finder.specs.Sum.{opening_row}
+use Rattle.ct_finder.specs.Inside.Rows.{rows_to}
 use Rattle.std.proofs.Common.{◌≡◌, ℕ, List, [], ◌∷◌, ◌++◌, map, sym, ap, ap₂, ◌∙◌, subst}
 use Rattle.std.specs.Prelude.{ℤ, pos, neg_ℤ}
 use Rattle.std.proofs.lemmas.Int.{to_z-of_z}
 use mir.Syntax.{w64}
-use Rattle.ct_finder.specs.Column.{rows_to, columns, opening_row}
+use Rattle.ct_finder.specs.Column.{columns}
 use Rattle.ct_finder.specs.Narrow.{AreNarrow}
 use Rattle.ct_finder.proofs.OpeningLemmas.{unit, opening_row-pieces, narrow-opening_row}
 use Rattle.ct_finder.proofs.opening.opening_row.Goals as goal

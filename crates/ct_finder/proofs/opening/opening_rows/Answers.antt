@@ -1,8 +1,9 @@
+use Rattle.ct_finder.specs.Sum.{opening_row}
 use Rattle.std.proofs.Common.{◌≡◌, ℕ, suc, List, [], ◌∷◌, ◌++◌, map, add-one, sym, ap, ap₂, ◌∙◌, arith}
 use Rattle.std.specs.Prelude.{ℤ}
 use Rattle.std.specs.List.{range_with_len}
 use Rattle.std.proofs.lemmas.List.FromFn.{map-range_with_len_more}
-use Rattle.ct_finder.specs.Column.{columns, opening_row}
+use Rattle.ct_finder.specs.Column.{columns}
 use Rattle.ct_finder.proofs.opening.opening_rows.Goals as goal
 
 pub loop-before-preserved : goal.loop-before-preserved

@@ -1,6 +1,7 @@
+use Rattle.ct_finder.specs.Sum.{opening_row}
 use Rattle.std.proofs.Common.{◌≡◌, map}
 use Rattle.std.specs.List.{range_with_len}
-use Rattle.ct_finder.specs.Column.{columns, opening_row}
+use Rattle.ct_finder.specs.Column.{columns}
 use Rattle.ct_finder.proofs.opening.opening_rows.Given as goal
 
 -- the rows so far

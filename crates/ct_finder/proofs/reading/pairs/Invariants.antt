@@ -1,7 +1,7 @@
 -- The pairs of the indices so far.
+use Rattle.ct_finder.specs.Inside.Numbers.{numbers_of_range}
 use Rattle.std.proofs.Common.{◌≡◌, take}
 use Rattle.std.specs.Prelude.{pos, filter, int_lt}
-use Rattle.ct_finder.specs.RunPrimal.{numbers_of_range}
 use Rattle.ct_finder.specs.Ready.{seen}
 use Rattle.ct_finder.proofs.reading.pairs.Given as goal
 

@@ -1,9 +1,9 @@
 -- A row leads on or ends the search; at the end no row is left.
 use Rattle.std.proofs.Common.{◌≡◌, ◌<◌, ◌+◌, ◌-◌, ◌^◌, false, [], drop, get_or, length, sym, ap, ◌∙◌, List, ℕ, arith}
-use Rattle.std.specs.Prelude.{find, ℤ}
+use Rattle.std.specs.Prelude.{find, ℤ, fold}
 use Rattle.std.proofs.lemmas.Bool.{le-ltb}
 use Rattle.std.proofs.lemmas.List.{drop_all, drop_more}
-use Rattle.ct_finder.specs.RunPrimal.{scales, last_scale}
+use Rattle.ct_finder.specs.RunPrimal.{scales, next_scale}
 use Rattle.ct_finder.proofs.RunPoints.{lines-count}
 use Rattle.ct_finder.specs.Ready.{seen}
 use Rattle.ct_finder.specs.declared.reading.Line.{Line}
@@ -29,8 +29,8 @@ loop-i-preserved c =
     let on = scale-goes_on a q l (drop (i + 1) lines) none (narrow q c.loop-i.invariant.3) in
     let next_is = c.in-Ok.ensures.value ∙ ap (λ (x : Line). scale_after q x a) line_is in
     let split = sym (drop_more lines i ([], 0) within) in (
-      ap (λ (s : ℕ). last_scale s (of_a a (drop (i + 1) lines))) next_is ∙ on.0
-          ∙ ap (λ (ls : List (List ℤ × ℕ)). last_scale q (of_a a ls)) split ∙ c.loop-i.invariant.0,
+      ap (λ (s : ℕ). fold next_scale s (of_a a (drop (i + 1) lines))) next_is ∙ on.0
+          ∙ ap (λ (ls : List (List ℤ × ℕ)). fold next_scale q (of_a a ls)) split ∙ c.loop-i.invariant.0,
       ap (λ (s : ℕ). find is_large (scales s (of_a a (drop (i + 1) lines)))) next_is ∙ on.1
           ∙ ap (λ (ls : List (List ℤ × ℕ)). find is_large (scales q (of_a a ls))) split ∙ c.loop-i.invariant.1,
       c.in-Ok.ensures.some_of.0,
@@ -60,6 +60,6 @@ returns-clause-fault c =
 pub returns-clause-value : goal.returns-clause-value
 returns-clause-value c =
     let count = lines-count (seen c.args.tableau.now) c.requires.basic.count in
-    ap (λ (ls : List (List ℤ × ℕ)). last_scale c.loop-i.q (of_a c.args.count ls))
+    ap (λ (ls : List (List ℤ × ℕ)). fold next_scale c.loop-i.q (of_a c.args.count ls))
     (sym (drop_all c.loop-i.i (lines_seen c.args.tableau.now) (omega (arith, c.loop-i-test.false, c.loop-i.auto, c.len-i-end.ensures, count))))
     ∙ c.loop-i.invariant.0

@@ -2,8 +2,8 @@
 use Rattle.std.proofs.Common.{◌≡◌, ◌-◌, suc, length, sym, ap, ◌∙◌, arith}
 use Rattle.ct_finder.specs.Column.{columns}
 use Rattle.ct_finder.specs.Pivot.{entering}
-use Rattle.ct_finder.specs.Run.{step}
-use Rattle.ct_finder.specs.Run.Step.{goes}
+use Rattle.ct_finder.specs.Inside.Step.{step}
+use Rattle.ct_finder.specs.Inside.Step.Step.{goes}
 use Rattle.ct_finder.specs.Ready.{seen, end_of, step_of}
 use Rattle.ct_finder.proofs.Steps.{run-ended, run-goes, run-least, run-pivots}
 use Rattle.ct_finder.proofs.running.run.Goals as goal
