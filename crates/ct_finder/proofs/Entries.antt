@@ -1,4 +1,5 @@
 -- Entries of rows at their columns.
+use Rattle.ct_finder.specs.Inside.Pivot.{crossed}
 use Rattle.ct_finder.specs.Inside.Rows.{rows_to}
 use Rattle.std.proofs.Common.{◌≡◌, ℕ, zero, suc, ◌+◌, ◌<◌, ◌≤◌, ◌==◌, Bool, true, false, cond, ◌||◌, List, [], ◌∷◌, ◌++◌, map, length, refl, sym, ap, ◌∙◌, arith, eqb-true}
 use Rattle.std.specs.Prelude.{ℤ, pos, ◌-ℤ◌, ◌*ℤ◌, int_div, unsigned_abs}
@@ -9,7 +10,6 @@ use Rattle.std.proofs.lemmas.Bool.{eqb-false}
 use Rattle.ct_finder.specs.Column.{Column, same_column, columns}
 use Rattle.ct_finder.specs.Column.Column.{Z, A, S, Constant}
 use Rattle.ct_finder.specs.Divisor.{divisor, reduced}
-use Rattle.ct_finder.specs.Pivot.{crossed}
 use Rattle.ct_finder.specs.Run.{coefficient}
 use Rattle.ct_finder.proofs.Divisors.{divisor-some, divisor-divides, quotient-exact}
 

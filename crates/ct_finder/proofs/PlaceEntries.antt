@@ -1,11 +1,12 @@
 -- What a pivot makes of the entries of a row, place by place, and of what it gives for numbers at places.
+use Rattle.ct_finder.specs.Inside.Pivot.{crossed}
 use Rattle.std.proofs.Common.{◌≡◌, ℕ, zero, suc, ◌-◌, ◌≤◌, List, [], ◌∷◌, map, length, refl, sym, ap, ◌∙◌, arith}
 use Rattle.std.specs.Prelude.{ℤ, pos, negsuc, ◌-ℤ◌, ◌*ℤ◌, ◌≤ℤ◌, int_div, unsigned_abs}
 use Rattle.std.specs.List.{AllByRecursion}
 use Rattle.std.specs.Int.{◌∣◌}
 use Rattle.std.proofs.lemmas.Int.{ints}
 use Rattle.ct_finder.specs.Divisor.{divisor}
-use Rattle.ct_finder.specs.Pivot.{at, constant_of, crossed, pivoted_row}
+use Rattle.ct_finder.specs.Pivot.{at, constant_of, pivoted_row}
 use Rattle.ct_finder.specs.Basic.{worth}
 use Rattle.ct_finder.proofs.Divisors.{divisor-some, divisor-divides, quotient-exact}
 use Rattle.ct_finder.proofs.Crossed.{product-crossed, sum-crossed}

@@ -1,4 +1,5 @@
 -- The point that a run's last tableau gives: it solves the tableau, and so the opening rows.
+use Rattle.ct_finder.specs.Inside.Numbers.{basic_constant}
 use Rattle.std.proofs.Common.{◌≡◌, ◌≢◌, ℕ, zero, suc, ◌+◌, ◌-◌, ◌*◌, ◌/◌, ◌<◌, ◌≤◌, List, [], ◌∷◌, map, length, get_or, refl, sym, ap, ap₂, ◌∙◌, arith, subst}
 use Rattle.std.specs.Prelude.{zip, ℤ, pos, neg_ℤ, ◌+ℤ◌, ◌*ℤ◌, ◌≤ℤ◌}
 use Rattle.std.specs.List.{AllByRecursion}
@@ -15,7 +16,7 @@ use Rattle.ct_finder.specs.Column.{Tableau}
 use Rattle.ct_finder.specs.Pivot.{at, constant_of}
 use Rattle.ct_finder.specs.Sum.{HasWidth}
 use Rattle.ct_finder.specs.Basic.{worth, row_at, basic_at, AreBasic}
-use Rattle.ct_finder.specs.RunPrimal.{basic_entry, basic_constant}
+use Rattle.ct_finder.specs.RunPrimal.{basic_entry}
 use Rattle.ct_finder.proofs.BasicPivots.{row-width}
 use Rattle.ct_finder.proofs.RunPairs.{AreApart}
 

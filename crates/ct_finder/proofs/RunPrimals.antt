@@ -1,5 +1,5 @@
 -- The primal of a run that ends as least is sound, and its value is the bound of the run's dual.
-use Rattle.ct_finder.specs.Inside.Numbers.{is_of_a}
+use Rattle.ct_finder.specs.Inside.Numbers.{is_of_a, basic_constant}
 use Rattle.ct_finder.specs.Sum.{opening_row}
 use Rattle.std.proofs.Common.{◌≡◌, ℕ, zero, suc, ◌+◌, ◌-◌, ◌*◌, ◌/◌, ◌<◌, ◌≤◌, ◌==◌, Bool, true, false, cond, ◌&&◌, nat_le, List, [], ◌∷◌, map, length, get_or, refl, sym, ap, ap₂, ◌∙◌, arith, subst, leb-true, inl, inr}
 use Rattle.std.specs.Prelude.{ℤ, pos, negsuc, neg_ℤ, ◌+ℤ◌, ◌*ℤ◌, ◌≤ℤ◌}
@@ -19,7 +19,7 @@ use Rattle.ct_finder.specs.Column.Column.{Z, A, S}
 use Rattle.ct_finder.specs.Pivot.{at, constant_of}
 use Rattle.ct_finder.specs.Run.{coefficient}
 use Rattle.ct_finder.specs.Basic.{worth, row_at, basic_at, Solves}
-use Rattle.ct_finder.specs.RunPrimal.{basic_entry, basic_constant, lines_of_a, scaled, run_scale}
+use Rattle.ct_finder.specs.RunPrimal.{basic_entry, lines_of_a, scaled, run_scale}
 use Rattle.ct_finder.proofs.Crossed.{int_cancel}
 use Rattle.ct_finder.proofs.PlaceEntries.{nonneg-from_product}
 use Rattle.ct_finder.proofs.Places.{length-columns, column-a, column-s, column-last, opening-at, opening-constant, cost-at}

@@ -1,4 +1,5 @@
 -- Each row of a run is a sum of the opening rows: the opening tableau's rows are, and pivots keep it.
+use Rattle.ct_finder.specs.Inside.Pivot.{crossed}
 use Rattle.ct_finder.specs.Inside.Rows.{rows_to}
 use Rattle.std.proofs.Common.{◌≡◌, ℕ, zero, suc, ◌+◌, ◌<◌, ◌≤◌, cond, List, map, length, refl, sym, ap, ap₂, ◌∙◌, arith}
 use Rattle.std.specs.Prelude.{ℤ, pos, ◌-ℤ◌, ◌*ℤ◌, ◌≤ℤ◌}
@@ -9,7 +10,7 @@ use Rattle.ct_words.specs.Counting.Alternating.{total_below}
 use Rattle.ct_finder.specs.Column.{Column, columns, opening_entry, cost_entry, opening}
 use Rattle.ct_finder.specs.Column.Column.{Z, S}
 use Rattle.ct_finder.specs.Divisor.{divisor}
-use Rattle.ct_finder.specs.Pivot.{at, crossed, pivoted_row}
+use Rattle.ct_finder.specs.Pivot.{at, pivoted_row}
 use Rattle.ct_finder.specs.Run.{coefficient}
 use Rattle.ct_finder.specs.Sum.{sum_of_opening, IsSum, AreSums, opening_row}
 use Rattle.ct_finder.proofs.Divisors.{divisor-some}

@@ -1,5 +1,5 @@
 -- The columns and the opening rows of the finder's run: the linear program whose solutions are duals (Delsarte 1973), as a table of whole numbers for the simplex method.
-use Rattle.std.specs.Prelude.{ℕ, suc, Bool, true, false, ◌==◌, cond, List, [], ◌∷◌, ◌++◌, map, filter, ℤ, pos, negsuc, neg_ℤ}
+use Rattle.std.specs.Prelude.{ℕ, suc, Bool, true, false, ◌==◌, if◌then◌else◌, List, [], ◌∷◌, ◌++◌, map, filter, ℤ, pos, negsuc, neg_ℤ}
 use Rattle.std.specs.List.{range_with_len, position_or_len}
 use Rattle.ct_words.specs.declared.entry.Entry.{Entry}
 use Rattle.ct_duals.specs.Dual.{degree_of, is_in_range}
@@ -42,7 +42,7 @@ place_of_column c cs = position_or_len (λ x. same_column x c) cs
 abbrev pub opening_entry : (ℕ → ℕ → ℤ) → ℕ → Column → ℤ
 opening_entry number k Z = pos 0
 opening_entry number k (A i) = neg_ℤ (number k i)
-opening_entry number k (S j) = cond (j == k) (pos 1) (pos 0)
+opening_entry number k (S j) = if j == k then pos 1 else pos 0
 opening_entry number k Constant = number k 0
 
 -- the opening cost row: 1 at z, -1 at each a_i and 0 elsewhere

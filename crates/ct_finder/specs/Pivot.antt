@@ -31,13 +31,9 @@ abbrev pub pivot_row : ℕ → Tableau → Option ℕ
 pivot_row e t =
     position (λ l. is_candidate e l && list_all (λ m. not (is_candidate e m && comes_before e m l)) (zip t.rows t.basics)) (zip t.rows t.basics)
 
--- p · R - r · P
-abbrev pub crossed : ℤ → ℤ → List ℤ → List ℤ → List ℤ
-crossed p r pivot row = map (λ v. (p *ℤ v.0) -ℤ (r *ℤ v.1)) (zip row pivot)
-
 -- a row R once the pivot row P has entered at e: p · R - r · P, with the entries p and r of both at e, divided by the greatest common divisor of its entries
 abbrev pub pivoted_row : ℕ → List ℤ → List ℤ → List ℤ
-pivoted_row e pivot row = reduced (crossed (at pivot e) (at row e) pivot row)
+pivoted_row e pivot row = reduced (map (λ v. (at pivot e *ℤ v.0) -ℤ (at row e *ℤ v.1)) (zip row pivot))
 
 -- the tableau once the row at the place i has entered at e: this row stays, and e is its basic column
 abbrev pub pivoted : ℕ → ℕ → Tableau → Tableau

@@ -1,11 +1,12 @@
 -- What is read off the tableau with which a run ends as least: its primal, or the first number of it that is too large.
+use Rattle.ct_finder.specs.Inside.Numbers.{basic_constant}
 use Rattle.std.specs.Prelude.{ℕ, ◌*◌, ◌/◌, Bool, ◌&&◌, nat_le, if◌then◌else◌, List, zip, map, length, find, ℤ, pos, Option, Some, None}
 use Rattle.ct_words.specs.declared.entry.Entry.{Entry}
 use Rattle.ct_primal.specs.Primal.{PrimalValue}
 use Rattle.ct_finder.specs.Column.{Tableau}
 use Rattle.ct_finder.specs.Divisor.{gcd}
 use Rattle.ct_finder.specs.Pivot.{is_wide}
-use Rattle.ct_finder.specs.RunPrimal.{basic_entry, basic_constant, lines_of_a, scales, scaled, wide_number, run_primal}
+use Rattle.ct_finder.specs.RunPrimal.{basic_entry, lines_of_a, scales, scaled, wide_number, run_primal}
 use Rattle.ct_finder.specs.declared.tableau.Tableau.{Tableau as TableauOfCode}
 use Rattle.ct_finder.specs.declared.reading.Line.{Line}
 use Rattle.ct_finder.specs.declared.reading.Reading.{Reading}

@@ -12,10 +12,6 @@ use Rattle.ct_finder.specs.Pivot.{at, constant_of, is_wide}
 abbrev pub basic_entry : List ℤ × ℕ → ℕ
 basic_entry l = natural (at l.0 l.1)
 
--- κ: the constant of a row
-abbrev pub basic_constant : List ℤ × ℕ → ℕ
-basic_constant l = natural (constant_of l.0)
-
 -- the rows whose basic column is an a, in order of k, each with its place: for so many indices the a's stand at the places from 1 on
 abbrev pub lines_of_a : ℕ → Tableau → List (List ℤ × ℕ)
 lines_of_a count t = filter (λ l. nat_le 1 l.1 && nat_le l.1 count) (zip t.rows t.basics)
@@ -29,9 +25,9 @@ abbrev pub scales : ℕ → List (List ℤ × ℕ) → List ℕ
 scales q [] = []
 scales q (l ∷ ls) = next_scale q l ∷ scales (next_scale q l) ls
 
--- the number of a row over the scale: κ · (q/β)
+-- the number of a row over the scale: κ · (q/β), with the constant κ of the row
 abbrev pub scaled : ℕ → List ℤ × ℕ → ℕ
-scaled q l = basic_constant l * (q / basic_entry l)
+scaled q l = natural (constant_of l.0) * (q / basic_entry l)
 
 -- the scale of the primal
 abbrev pub run_scale : ℕ → Tableau → ℕ

@@ -1,7 +1,8 @@
 //! Rows of a tableau.
+ghost use Rattle.ct_finder.specs.Inside.Pivot.{crossed};
 ghost use Rattle.std.specs.Prelude.{◌≡◌, ◌<◌, ◌≤◌, ◌^◌, None, pos, ◌≤ℤ◌, length, map, find, int_div};
 ghost use Rattle.ct_finder.specs.Divisor.{gcd_of, divisor};
-ghost use Rattle.ct_finder.specs.Pivot.{at, is_wide, crossed, pivoted_row};
+ghost use Rattle.ct_finder.specs.Pivot.{at, is_wide, pivoted_row};
 ghost use Rattle.ct_finder.specs.Narrow.{AreNarrow};
 
 use crate::arithmetic::{cross, gcd, is_wide, quotient};

@@ -1,8 +1,14 @@
 -- The rows and the numbers of a run's primal.
 use Rattle.std.specs.Prelude.{ℕ, Bool, ◌&&◌, nat_le, List, map, zip, length, ℤ, pos}
 use Rattle.std.specs.List.{range_with_len}
+use Rattle.ct_duals.specs.Bound.{natural}
 use Rattle.ct_finder.specs.Column.{Tableau}
+use Rattle.ct_finder.specs.Pivot.{constant_of}
 use Rattle.ct_finder.specs.RunPrimal.{run_scale, number_at_place}
+
+-- κ: the constant of a row
+abbrev pub basic_constant : List ℤ × ℕ → ℕ
+basic_constant l = natural (constant_of l.0)
 
 -- whether the basic column of a row is one of so many a's
 abbrev pub is_of_a : ℕ → List ℤ × ℕ → Bool

@@ -1,7 +1,11 @@
 -- The best of the first candidates for the pivot row.
-use Rattle.std.specs.Prelude.{ℕ, Bool, not, ◌&&◌, List, [], get_or, Option, Some, None, ℤ}
+use Rattle.std.specs.Prelude.{ℕ, Bool, not, ◌&&◌, List, [], get_or, map, zip, Option, Some, None, ℤ, ◌*ℤ◌, ◌-ℤ◌}
 use Rattle.std.specs.List.{list_all}
 use Rattle.ct_finder.specs.Pivot.{is_candidate, comes_before}
+
+-- p · R - r · P
+abbrev pub crossed : ℤ → ℤ → List ℤ → List ℤ → List ℤ
+crossed p r pivot row = map (λ v. (p *ℤ v.0) -ℤ (r *ℤ v.1)) (zip row pivot)
 
 -- no candidate comes before the row
 abbrev pub is_unbeaten : ℕ → List (List ℤ × ℕ) → List ℤ × ℕ → Bool

@@ -1,4 +1,5 @@
 -- One more entry.
+use Rattle.ct_finder.specs.Inside.Pivot.{crossed}
 use Rattle.std.proofs.Common.{rules, ◌≡◌, ◌-◌, ◌<◌, ◌^◌, true, false, length, get_or, map, sym, ap, subst, ◌∙◌, arith, take_all}
 use Rattle.std.specs.Prelude.{ℤ, pos, ◌≤ℤ◌, ◌*ℤ◌, ◌-ℤ◌, int_div, find, Some, unsigned_abs}
 use Rattle.std.proofs.lemmas.Int.{to_z-of_z, fits_signed_from_abs}
@@ -7,7 +8,7 @@ use Rattle.std.proofs.lemmas.List.{length-map, get_or-map}
 use Rattle.std.proofs.lemmas.List.Elements.{All-set}
 use mir.Val.{SFits}
 use mir.Syntax.{w64, w128}
-use Rattle.ct_finder.specs.Pivot.{is_wide, crossed}
+use Rattle.ct_finder.specs.Pivot.{is_wide}
 use Rattle.ct_finder.proofs.Written.{written-more, written-end, written-at, find-more, find-here}
 use Rattle.ct_finder.proofs.CrossedRows.{length-crossed, crossed-at}
 use Rattle.ct_finder.proofs.row.divide_crossed.Goals as goal

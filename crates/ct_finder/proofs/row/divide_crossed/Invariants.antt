@@ -1,7 +1,8 @@
 -- The entries before j are divided, the others as they were, and none is wide.
+use Rattle.ct_finder.specs.Inside.Pivot.{crossed}
 use Rattle.std.proofs.Common.{◌≡◌, take, map}
 use Rattle.std.specs.Prelude.{find, None, int_div, ℤ}
-use Rattle.ct_finder.specs.Pivot.{is_wide, crossed}
+use Rattle.ct_finder.specs.Pivot.{is_wide}
 use Rattle.ct_finder.specs.Narrow.{AreNarrow}
 use Rattle.ct_finder.proofs.Written.{IsWritten}
 use Rattle.ct_finder.proofs.row.divide_crossed.Given as goal

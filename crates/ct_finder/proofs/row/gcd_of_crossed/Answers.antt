@@ -1,4 +1,5 @@
 -- One more entry.
+use Rattle.ct_finder.specs.Inside.Pivot.{crossed}
 use Rattle.std.proofs.Common.{rules, ◌≡◌, ◌+◌, ◌<◌, ◌^◌, drop, get_or, length, sym, ap, ◌∙◌, arith}
 use Rattle.std.specs.Prelude.{fold, pos, unsigned_abs}
 use Rattle.std.proofs.lemmas.Int.{to_z-of_z}
@@ -6,7 +7,6 @@ use Rattle.std.proofs.lemmas.List.{drop_all}
 use mir.Val.{SFits}
 use mir.Syntax.{w64, w128}
 use Rattle.ct_finder.specs.Divisor.{gcd, gcd_of}
-use Rattle.ct_finder.specs.Pivot.{crossed}
 use Rattle.ct_finder.proofs.CrossedRows.{length-crossed, crossed-at, with_entry, divisor-more, divisor-one}
 use Rattle.ct_finder.proofs.row.gcd_of_crossed.Goals as goal
 

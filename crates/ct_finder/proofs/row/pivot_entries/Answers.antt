@@ -1,11 +1,12 @@
 -- The row is divided by its divisor.
+use Rattle.ct_finder.specs.Inside.Pivot.{crossed}
 use Rattle.std.proofs.Common.{rules, ◌≡◌, List, get_or, map, sym, ap, subst, ◌∙◌, arith}
 use Rattle.std.specs.Prelude.{ℤ, pos, ◌≤ℤ◌, int_div, find}
 use Rattle.std.proofs.lemmas.Int.{ints, to_z-of_z}
 use mir.Val.{SFits, to_z, of_z}
 use mir.Syntax.{w64, w128}
 use Rattle.ct_finder.specs.Divisor.{divisor}
-use Rattle.ct_finder.specs.Pivot.{is_wide, crossed}
+use Rattle.ct_finder.specs.Pivot.{is_wide}
 use Rattle.ct_finder.proofs.Divisors.{divisor-some}
 use Rattle.ct_finder.proofs.row.pivot_entries.Goals as goal
 
