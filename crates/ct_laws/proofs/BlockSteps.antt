@@ -24,11 +24,11 @@ use Rattle.ct_piece.proofs.Accepting.{made_again}
 use Rattle.ct_piece.proofs.StandingLemmas.{submitted-from}
 use Rattle.ct_derive.specs.Text.{evidence_text}
 use Rattle.ct_verify.specs.Heading.{lines_extent, heading_with, heading_of}
-use Rattle.ct_verify.specs.Read.{ReadingValue}
-use Rattle.ct_verify.specs.Reading.{after_block, read_heading, read_body, read_next}
-use Rattle.ct_verify.specs.Verdict.{verdict_after, verdict_from}
+use Rattle.ct_verify.specs.Inside.Read.{ReadingValue}
+use Rattle.ct_verify.specs.Inside.Reading.{after_block, read_heading, read_body, read_next}
+use Rattle.ct_verify.specs.Inside.Verdict.{verdict_after, verdict_from}
 use Rattle.ct_verify.specs.declared.part.Part.TheVariants as part
-use Rattle.ct_verify.specs.Step.{AfterLine, On}
+use Rattle.ct_verify.specs.Inside.Step.{AfterLine, On}
 use Rattle.ct_commands.proofs.SpacedWords.{AreWords, spaced_words, known_word, decimal_word, id_is_word, IsLine-words, words_again}
 use Rattle.ct_laws.proofs.LineSteps.{IsVerified, in_body, next_verified}
 

@@ -33,7 +33,6 @@ mod Columns
 mod DumpPieces
 mod ProposedPieces
 mod VerifiedReplies
-mod FirstFailures
 pub mod FindIds
 pub mod AcceptedProposals
 pub mod Alike

@@ -1,6 +1,6 @@
 -- Printed lines are read one by one, and `done` after them.
 use Rattle.std.proofs.Common.{◌≡◌, ◌≢◌, ℕ, suc, ◌+◌, Bool, true, false, cond, not, List, [], ◌∷◌, ◌++◌, map, length, Option, Some, refl, sym, ap, subst, ◌∙◌, append_assoc, append-nil, length-append, arith, codes}
-use Rattle.std.specs.Prelude.{slice_get, ◌==◌}
+use Rattle.std.specs.Prelude.{slice_get, ◌==◌, option_map}
 use Rattle.std.specs.Option.{unwrap_or}
 use Rattle.std.proofs.lemmas.Bool.Decides.{nat_tests}
 use Rattle.std.proofs.lemmas.List.{length-map, map-append}
@@ -10,7 +10,7 @@ use Rattle.ct_io.proofs.LinesLemmas.{lines_of-next}
 use Rattle.ct_rules.specs.declared.rule.Rule.{Rule}
 use Rattle.ct_rules.specs.declared.arguments.Arguments.{Arguments}
 use Rattle.ct_rules.specs.declared.arguments.Arguments.TheVariants.{Nothing, Number, Numbers, Place}
-use Rattle.ct_rules.specs.Rule.{named_place, arguments_of, bare}
+use Rattle.ct_rules.specs.Rule.{named_place, arguments_of, with_place, bare}
 use Rattle.ct_rules.proofs.RuleNames.{place_among, place_is, bare-placed}
 use Rattle.ct_rules.specs.Derivation.{LineValue, Follows}
 use Rattle.ct_piece.specs.Piece.{PieceValue, place_of_id as piece_place}
@@ -18,13 +18,13 @@ use Rattle.ct_piece.specs.Supports.{supports_of}
 use Rattle.ct_derive.specs.Check.{line_by, numbers_at}
 use Rattle.ct_derive.specs.Text.{lines_text}
 use Rattle.ct_derive.proofs.CheckedLines.{no_fault, places_again}
-use Rattle.ct_verify.specs.Read.{ReadingValue}
-use Rattle.ct_verify.specs.Reading.{and_line, unless_wrong, by_rule, read_line, read_body, read_next}
-use Rattle.ct_verify.specs.StatedLine.{StatedLineValue}
-use Rattle.ct_verify.specs.StatedRule.{at_place, resolved}
-use Rattle.ct_verify.specs.Verdict.{verdict_after, verdict_from}
+use Rattle.ct_verify.specs.Inside.Read.{ReadingValue}
+use Rattle.ct_verify.specs.Inside.Reading.{and_line, unless_wrong, by_rule, read_line, read_body, read_next}
+use Rattle.ct_verify.specs.Inside.StatedLine.{StatedLineValue}
+use Rattle.ct_verify.specs.Stated.{resolved}
+use Rattle.ct_verify.specs.Inside.Verdict.{verdict_after, verdict_from}
 use Rattle.ct_verify.specs.declared.part.Part.TheVariants as part
-use Rattle.ct_verify.specs.Step.{AfterLine, On, Failed}
+use Rattle.ct_verify.specs.Inside.Step.{AfterLine, On, Failed}
 use Rattle.ct_verify.specs.declared.verdict.Why.TheVariants as why
 use Rattle.ct_verify.specs.declared.verdict.Verdict.TheVariants.{Yes}
 use Rattle.ct_commands.proofs.SpacedWords.{spaced_words, known_word, IsLine-words, words_again}
@@ -58,7 +58,7 @@ resolved_as ids printed places r Nothing is h = refl
 resolved_as ids printed places r (Number k) is h = refl
 resolved_as ids printed places r (Numbers k m) is h = refl
 resolved_as ids printed places r (Place p) is h =
-    ap (at_place (bare r)) (h p (sym (place_is r) ∙ ap place_among is)) ∙ ap Some (bare-placed r p (new_place places p) is)
+    ap (option_map (with_place (bare r))) (h p (sym (place_is r) ∙ ap place_among is)) ∙ ap Some (bare-placed r p (new_place places p) is)
 
 resolved_again : (ids : List (List ℕ)) (printed : List PieceValue) (places : List ℕ) (r : Rule) → HasNewPlace ids printed places r
     → resolved printed (stated_of ids r).rule (stated_of ids r).id ≡ Some (moved_rule places r)

@@ -23,9 +23,10 @@ use Rattle.ct_rules.specs.Rule.{rule_side}
 use Rattle.ct_rules.specs.Derivation.{LineValue}
 use Rattle.ct_derive.specs.Check.{numbers_at, and_values}
 use Rattle.ct_derive.specs.Text.{side_text, from_words, claim_words, reason_words, line_text}
-use Rattle.ct_verify.specs.StatedRule.{stated_rule}
+use Rattle.ct_verify.specs.Inside.StatedRule.{stated_rule}
 use Rattle.ct_text.specs.Side.{side_of_word}
-use Rattle.ct_verify.specs.StatedLine.{StatedLineValue, entry_of_words, bound_of_word, all_numbers, premises_of_words, claim_of, line_from, with_rule, with_reason, with_value, line_of}
+use Rattle.ct_verify.specs.Stated.{entry_of_words}
+use Rattle.ct_verify.specs.Inside.StatedLine.{StatedLineValue, bound_of_word, all_numbers, premises_of_words, claim_of, line_from, with_rule, with_reason, with_value, line_of}
 use Rattle.ct_verify.specs.declared.stated_rule.StatedRule.{StatedRule}
 use Rattle.ct_commands.proofs.SpacedWords.{IsWord, AreWords, spaced_words, AreWords-append, known_word, decimal_word, decimal_words}
 use Rattle.ct_laws.proofs.SmallEntries.{HasSmallNumbers, small_numbers}

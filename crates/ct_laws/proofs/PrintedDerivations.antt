@@ -20,10 +20,10 @@ use Rattle.ct_derive.specs.Explanation.{last_claim}
 use Rattle.ct_derive.specs.Text.{block_text, evidence_text, lines_text}
 use Rattle.ct_explain.specs.Explained.{ExplainsBest, explanation_text}
 use Rattle.ct_explain.proofs.ExplainedBounds.{lines_are_true}
-use Rattle.ct_verify.specs.Read.{unread}
-use Rattle.ct_verify.specs.Reading.{is_only, read_next}
-use Rattle.ct_verify.specs.Verdict.{verdict_of}
-use Rattle.ct_verify.specs.Step.{On, Failed}
+use Rattle.ct_verify.specs.Inside.Read.{unread}
+use Rattle.ct_verify.specs.Inside.Reading.{is_only, read_next}
+use Rattle.ct_verify.specs.Inside.Verdict.{verdict_of}
+use Rattle.ct_verify.specs.Inside.Step.{On, Failed}
 use Rattle.ct_verify.specs.declared.verdict.Why.TheVariants as why
 use Rattle.ct_verify.specs.declared.verdict.Verdict.TheVariants.{Yes}
 use Rattle.ct_commands.proofs.SpacedWords.{known_word, IsLine-words, words_again}

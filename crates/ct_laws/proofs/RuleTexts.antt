@@ -14,7 +14,8 @@ use Rattle.ct_rules.specs.declared.arguments.Arguments.TheVariants.{Nothing, Num
 use Rattle.ct_rules.specs.Rule.{row_of, rule_side, name_of, arguments_of, with_arguments, bare}
 use Rattle.ct_rules.proofs.RuleNames.{zeros, named_again, argued_again, bare_arguments, with_nothing}
 use Rattle.ct_derive.specs.Text.{id_word, argument_words, rule_words}
-use Rattle.ct_verify.specs.StatedRule.{argument_of, numbered, citing, with_words, stated_rule}
+use Rattle.ct_verify.specs.Stated.{argument_of}
+use Rattle.ct_verify.specs.Inside.StatedRule.{numbered, citing, with_words, stated_rule}
 use Rattle.ct_verify.specs.declared.stated_rule.StatedRule.{StatedRule}
 use Rattle.ct_commands.proofs.SpacedWords.{IsWord, AreWords, spaced_words, known_word, decimal_word, id_is_word}
 

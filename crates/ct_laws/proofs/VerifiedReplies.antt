@@ -16,7 +16,7 @@ use Rattle.ct_fields.specs.declared.document.TheConstants.{MAX_DOCUMENT}
 use Rattle.ct_piece.specs.Piece.{PieceValue}
 use Rattle.ct_piece.specs.Standing.{AreStanding}
 use Rattle.ct_piece.proofs.StandingLemmas.{AreStanding-none}
-use Rattle.ct_verify.specs.Verdict.{verdict_of}
+use Rattle.ct_verify.specs.Inside.Verdict.{verdict_of}
 use Rattle.ct_verify.specs.declared.verdict.Verdict.TheVariants.{Yes}
 use Rattle.ct_laws.proofs.PrintedDerivations.{printed_is_verified}
 use Rattle.ct_session.specs.Reply.{IsExplainReply, IsReply, pieces_after}

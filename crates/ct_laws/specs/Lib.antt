@@ -15,7 +15,6 @@ pub mod Examples
 pub mod Acceptance
 pub mod Sides
 pub mod GreatestSize
-pub mod FirstFailure
 pub mod Proposed
 pub mod RuleExamples
 pub mod DualRule

@@ -22,8 +22,7 @@ ghost use Rattle.ct_replies.specs.Text.{listed_text, reply_text};
 ghost use Rattle.ct_replies.specs.declared.reply.Bounds.{Bounds};
 ghost use Rattle.ct_replies.specs.declared.reply.Reply.{Reply};
 ghost use Rattle.ct_replies.specs.declared.reply.Reply.TheVariants.{Shown, Lines};
-ghost use Rattle.ct_verify.specs.Verdict.{verdict_of};
-ghost use Rattle.ct_verify.specs.declared.verdict.Verdict.TheVariants.{Yes};
+ghost use Rattle.ct_verify.specs.Document.{IsVerified};
 ghost use Rattle.ct_laws.specs.GreatestSize.{IsGreatestSize};
 ghost use Rattle.ct_laws.specs.Sides.{bound_on};
 
@@ -56,8 +55,8 @@ pub fn shown_lower_bounds_are_listed()
 pub fn explained_bounds_are_verified()
     ensures reply { (pieces : List PieceValue) (side : Side) (numbers : EntryNumbers) (r : Reply) → AreStanding pieces
         → All (λ p. length p.document ≤ MAX_DOCUMENT) pieces → IsReply pieces (command.Explain side numbers) r
-        → is_refusal r ≡ false → verdict_of (reply_text r) ≡ Yes }
+        → is_refusal r ≡ false → IsVerified (reply_text r) }
     ensures run { (input output : List ℕ) (refused : Bool) (answers : IsRun input output refused) (k : ℕ) (side : Side)
         (numbers : EntryNumbers) (r : Reply) → slice_get answers.commands k ≡ Some (command.Explain side numbers)
-        → slice_get answers.answers.replies k ≡ Some r → is_refusal r ≡ false → verdict_of (reply_text r) ≡ Yes }
+        → slice_get answers.answers.replies k ≡ Some r → is_refusal r ≡ false → IsVerified (reply_text r) }
 {}

@@ -1,14 +1,14 @@
-//! What a verdict names.
+//! Verdicts on derivation documents.
 
-ghost use Rattle.std.specs.Prelude.{◌≡◌, ◌↔◌, ℕ, List};
-ghost use Rattle.ct_verify.specs.Verdict.{verdict_of};
-ghost use Rattle.ct_verify.specs.declared.verdict.Verdict.TheVariants.{No};
-ghost use Rattle.ct_verify.specs.declared.verdict.Why.{Why};
-ghost use Rattle.ct_laws.specs.FirstFailure.{IsFirstFailure};
+ghost use Rattle.std.specs.Prelude.{◌≡◌, ℕ, List};
+ghost use Rattle.ct_kind.specs.declared.fault.SubmitFault.TheVariants.{Memory};
+ghost use Rattle.ct_verify.specs.Document.{IsFirstFailure, IsVerdict};
+ghost use Rattle.ct_verify.specs.declared.verdict.Verdict.{Verdict};
+ghost use Rattle.ct_verify.specs.declared.verdict.Why.TheVariants.{Evidence};
 
-/// A verdict names a text line and a reason exactly where this is the first text line that fails, and the reason for which it does:
-/// those before it are read with no failure. A block of evidence fails on the line that begins it, where its document is refused or is
-/// not whole at the end; and where the document ends too early, the line fails that is missing.
-pub fn verdicts_name_the_first_failure()
-    ensures { (document : List ℕ) (l : ℕ) (why : Why) → (verdict_of document ≡ No l why) ↔ IsFirstFailure document l why }
+/// Each document has just one verdict: it is verified, or it has one first failure. No verdict is for want of memory.
+pub fn documents_have_one_verdict()
+    ensures some { (document : List ℕ) → (v : Verdict) × IsVerdict document v }
+    ensures one { (document : List ℕ) (v w : Verdict) → IsVerdict document v → IsVerdict document w → v ≡ w }
+    ensures not_memory { (document : List ℕ) (k : ℕ) → IsFirstFailure document k (Evidence Memory) → ⊥ }
 {}

@@ -1,7 +1,8 @@
 -- Where memory runs out before a mode begins, nothing is read or written.
 use Rattle.std.proofs.Common.{◌≡◌, ◌≢◌, ℕ, false, List, [], Option, Some, None, Err, inl, inr, refl}
 use Rattle.std.proofs.KnownBytes.{Appends-nil, Keeps-refl}
-use Rattle.ct_verify.specs.Verdict.{verdict_of}
+use Rattle.ct_verify.specs.Inside.Verdict.{verdict_of}
+use Rattle.ct_verify.proofs.Documents.{verdict_is}
 use Rattle.ct_verify.specs.Verification.{is_no, verdict_line}
 use Rattle.ct_find.proofs.Existence.{found_exists}
 use Rattle.ct_sample.proofs.Summaries.{some_output}
@@ -27,7 +28,7 @@ nothing_is_prefix Find None held = tt
 nothing_is_prefix Find (Some input) held =
     let (output, refused, found) = found_exists input in
     (output, refused, found, ([], output, refl, Appends-nil held))
-nothing_is_prefix Verify (Some input) held = (verdict_line (verdict_of input), is_no (verdict_of input), (refl, refl), ([], verdict_line (verdict_of input), refl, Appends-nil held))
+nothing_is_prefix Verify (Some input) held = (verdict_line (verdict_of input), is_no (verdict_of input), (verdict_of input, verdict_is input, refl, refl), ([], verdict_line (verdict_of input), refl, Appends-nil held))
 nothing_is_prefix (Sample number) left held =
     let (output, sample) = some_output number in
     (output, false, (sample, refl), ([], output, refl, Appends-nil held))

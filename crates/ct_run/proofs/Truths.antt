@@ -17,7 +17,7 @@ use Rattle.ct_run.specs.Truth.{WritesAs, IsTrueOutput}
 pub outputs_are_true : (mode : Mode) (input output : List ℕ) (refused : Bool) → IsOutput mode input output refused → IsTrueOutput mode input output
 outputs_are_true Session input output refused h =
     (run_answers IsTrueAnswer true_answer input output refused h, run_answers IsTrueReason true_reason input output refused h)
-outputs_are_true Verify input output refused h = verdict_is_true input output h.0
+outputs_are_true Verify input output refused (v, is, written, mark) = verdict_is_true input output v is written
 outputs_are_true Find input output refused h = found_is_true input output refused h
 outputs_are_true (Sample number) input output refused h = sums_are_true number output h.0
 

@@ -6,7 +6,8 @@ use Rattle.ct_io.specs.declared.run_fault.RunFault.{RunFault}
 use Rattle.ct_io.specs.declared.run_fault.RunFault.TheVariants as fault
 use Rattle.ct_io.specs.Told.{AppendsProperPrefix}
 use Rattle.ct_io.proofs.ToldLemmas.{AppendsPrefix-from_proper}
-use Rattle.ct_verify.specs.Verdict.{verdict_of}
+use Rattle.ct_verify.specs.Inside.Verdict.{verdict_of}
+use Rattle.ct_verify.proofs.Documents.{verdict_is}
 use Rattle.ct_verify.specs.Verification.{is_no, verdict_line}
 use Rattle.ct_command_line.specs.declared.mode.Mode.TheVariants.{Verify}
 use Rattle.ct_run.specs.declared.status.Status.TheVariants.{WriteFault}
@@ -30,7 +31,7 @@ IsWrittenInPart left old new = IfSome left (λ input. AppendsProperPrefix old ne
 output : (left old new : Option (List ℕ)) (r : Result Bool RunFault) → IfOk r (IsVerdict left) → OnOk r (IsWritten left old new) → IsRunStatus (result_status r)
     → WritesOutput Verify left old new (result_status r)
 output None old new (Ok refused) is written done = tt
-output (Some input) old new (Ok refused) is written done = (verdict_line (verdict_of input), refused, (refl, is), refl, written)
+output (Some input) old new (Ok refused) is written done = (verdict_line (verdict_of input), refused, (verdict_of input, verdict_is input, refl, is), refl, written)
 output left old new (Err f) is written done = absurd (no_run_status f done)
 
 -- nothing was written
@@ -40,21 +41,21 @@ kept_none (Some xs) None h = absurd h
 kept_none (Some xs) (Some ys) h = h ∙ sym (append-nil xs)
 
 nothing : (input : List ℕ) (old new : Option (List ℕ)) → Keeps old new → WritesPrefix Verify (Some input) old new
-nothing input old new h = (verdict_line (verdict_of input), is_no (verdict_of input), (refl, refl), ([], verdict_line (verdict_of input), refl, kept_none old new h))
+nothing input old new h = (verdict_line (verdict_of input), is_no (verdict_of input), (verdict_of input, verdict_is input, refl, refl), ([], verdict_line (verdict_of input), refl, kept_none old new h))
 
 -- the sink holds what it held, or some or all of the line was written
 prefix : (left old new : Option (List ℕ)) (r : Result Bool RunFault) → OnOk r (IsWritten left old new) → (r ≡ Err fault.Write → IsWrittenInPart left old new)
     → IfErr r (λ f. f ≢ fault.Write → Keeps old new) → WritesPrefix Verify left old new
 prefix None old new r written part kept = tt
-prefix (Some input) old new (Ok refused) written part kept = (verdict_line (verdict_of input), is_no (verdict_of input), (refl, refl), (verdict_line (verdict_of input), [], sym (append-nil (verdict_line (verdict_of input))), written))
-prefix (Some input) old new (Err fault.Write) written part kept = (verdict_line (verdict_of input), is_no (verdict_of input), (refl, refl), AppendsPrefix-from_proper old new (verdict_line (verdict_of input)) (part refl))
+prefix (Some input) old new (Ok refused) written part kept = (verdict_line (verdict_of input), is_no (verdict_of input), (verdict_of input, verdict_is input, refl, refl), (verdict_line (verdict_of input), [], sym (append-nil (verdict_line (verdict_of input))), written))
+prefix (Some input) old new (Err fault.Write) written part kept = (verdict_line (verdict_of input), is_no (verdict_of input), (verdict_of input, verdict_is input, refl, refl), AppendsPrefix-from_proper old new (verdict_line (verdict_of input)) (part refl))
 prefix (Some input) old new (Err fault.Read) written part kept = nothing input old new (kept (λ e. cc))
 prefix (Some input) old new (Err fault.TooLong) written part kept = nothing input old new (kept (λ e. cc))
 prefix (Some input) old new (Err fault.Memory) written part kept = nothing input old new (kept (λ e. cc))
 
 in_part : (left old new : Option (List ℕ)) (r : Result Bool RunFault) → (r ≡ Err fault.Write → IsWrittenInPart left old new) → result_status r ≡ WriteFault → WritesProperPrefix Verify left old new
 in_part None old new r part e = tt
-in_part (Some input) old new r part e = (verdict_line (verdict_of input), is_no (verdict_of input), (refl, refl), part (sink_failed r e))
+in_part (Some input) old new r part e = (verdict_line (verdict_of input), is_no (verdict_of input), (verdict_of input, verdict_is input, refl, refl), part (sink_failed r e))
 
 -- after another fault than one of the sink this holds what it held
 pub kept_at : {X : Type 0} (old new : Option (List ℕ)) (r : Result X RunFault) (f : RunFault) → IfErr r (λ f. f ≢ fault.Write → Keeps old new) → r ≡ Err f → f ≢ fault.Write → Keeps old new

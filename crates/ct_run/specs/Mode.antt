@@ -4,7 +4,8 @@ use Rattle.std.specs.Io.KnownBytes.{Appends, Keeps}
 use Rattle.ct_io.specs.Told.{AppendsPrefix, AppendsProperPrefix}
 use Rattle.ct_session.specs.Run.{IsRun}
 use Rattle.ct_session.specs.Serve.{AnswersTaken, AnswersButLastBytes, WritesWholeReplies}
-use Rattle.ct_verify.specs.Verdict.{verdict_of}
+use Rattle.ct_verify.specs.Document.{IsVerdict}
+use Rattle.ct_verify.specs.declared.verdict.Verdict.{Verdict}
 use Rattle.ct_verify.specs.Verification.{is_no, verdict_line}
 use Rattle.ct_find.specs.Reply.{IsFound}
 use Rattle.ct_sample.specs.Summary.{IsSampleOutput}
@@ -24,7 +25,7 @@ reads (Sample number) = false
 -- nothing
 abbrev pub IsOutput : Mode → List ℕ → List ℕ → Bool → Type 0
 IsOutput Session input output refused = IsRun input output refused
-IsOutput Verify input output refused = (output ≡ verdict_line (verdict_of input)) × (refused ≡ is_no (verdict_of input))
+IsOutput Verify input output refused = (verdict : Verdict) × IsVerdict input verdict × (output ≡ verdict_line verdict) × (refused ≡ is_no verdict)
 IsOutput Find input output refused = IsFound input output refused
 IsOutput (Sample number) input output refused = IsSampleOutput number output × (refused ≡ false)
 

@@ -3,13 +3,13 @@ use Rattle.std.proofs.Common.{◌≡◌, ℕ, ◌<◌, Bool, false, cond, List, 
 use Rattle.std.specs.Prelude.{codes}
 use Rattle.std.proofs.lemmas.List.{length-map}
 use Rattle.ct_text.specs.Line.{words_of}
-use Rattle.ct_verify.specs.Read.{ReadingValue, in_part}
-use Rattle.ct_verify.specs.Reading.{is_only, read_body, read_in, read_next}
+use Rattle.ct_verify.specs.Inside.Read.{ReadingValue, in_part}
+use Rattle.ct_verify.specs.Inside.Reading.{is_only, read_body, read_in, read_next}
 use Rattle.ct_verify.specs.declared.failure.Failure.{Failure}
 use Rattle.ct_verify.specs.declared.verdict.Why.TheVariants as why
 use Rattle.ct_verify.specs.declared.part.Part.{Part}
 use Rattle.ct_verify.specs.declared.part.Part.TheVariants as part
-use Rattle.ct_verify.specs.Step.{On, Failed}
+use Rattle.ct_verify.specs.Inside.Step.{On, Failed}
 
 -- the step of a failure
 pub failed_so : (f g : Failure) → f ≡ g → Failed f.line f.why ≡ Failed g.line g.why

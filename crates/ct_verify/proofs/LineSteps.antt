@@ -5,14 +5,14 @@ use Rattle.std.specs.Str.{bytes_eq}
 use Rattle.std.proofs.lemmas.Bool.Decides.{nat_tests}
 use Rattle.ct_text.specs.Line.{words_of}
 use Rattle.ct_verify.specs.Heading.{heading_of}
-use Rattle.ct_verify.specs.StatedRule.{resolved}
-use Rattle.ct_verify.specs.StatedLine.{StatedLineValue, line_of}
-use Rattle.ct_verify.specs.Read.{ReadingValue, in_part}
-use Rattle.ct_verify.specs.Reading.{by_rule, read_line, read_heading, is_only, read_body, read_in, read_next}
+use Rattle.ct_verify.specs.Stated.{resolved}
+use Rattle.ct_verify.specs.Inside.StatedLine.{StatedLineValue, line_of}
+use Rattle.ct_verify.specs.Inside.Read.{ReadingValue, in_part}
+use Rattle.ct_verify.specs.Inside.Reading.{by_rule, read_line, read_heading, is_only, read_body, read_in, read_next}
 use Rattle.ct_verify.specs.declared.verdict.Why.TheVariants as why
 use Rattle.ct_verify.specs.declared.part.Part.{Part}
 use Rattle.ct_verify.specs.declared.part.Part.TheVariants as part
-use Rattle.ct_verify.specs.Step.{AfterLine, On, Failed}
+use Rattle.ct_verify.specs.Inside.Step.{AfterLine, On, Failed}
 use Rattle.ct_verify.specs.Inside.Steps.{is_end}
 use Rattle.ct_verify.proofs.FailedLines.{only_of_two}
 

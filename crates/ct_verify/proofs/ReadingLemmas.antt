@@ -30,16 +30,17 @@ use Rattle.ct_derive.specs.declared.check.LineFault.{LineFault}
 use Rattle.ct_derive.specs.declared.check.LineFault.TheVariants.{NoRule, NoPremise, OtherValue}
 use Rattle.ct_derive.proofs.CheckedLines.{derivation_by}
 use Rattle.ct_verify.specs.Heading.{lines_extent, heading_with, heading_of}
-use Rattle.ct_verify.specs.StatedRule.{resolved}
-use Rattle.ct_verify.specs.StatedLine.{StatedLineValue, line_of}
-use Rattle.ct_verify.specs.Read.{ReadingValue, unread, in_part}
-use Rattle.ct_verify.specs.Reading.{why_of, unless_wrong, by_rule, read_line, read_heading, is_only, read_body, after_block, read_block, read_in, read_next}
+use Rattle.ct_verify.specs.Stated.{resolved}
+use Rattle.ct_verify.specs.Inside.StatedLine.{StatedLineValue, line_of}
+use Rattle.ct_verify.specs.Inside.Read.{ReadingValue, unread, in_part}
+use Rattle.ct_verify.specs.Document.{why_of}
+use Rattle.ct_verify.specs.Inside.Reading.{unless_wrong, by_rule, read_line, read_heading, is_only, read_body, after_block, read_block, read_in, read_next}
 use Rattle.ct_verify.specs.declared.heading.Heading.{Heading}
 use Rattle.ct_verify.specs.declared.verdict.Why.TheVariants as why
 use Rattle.ct_verify.specs.declared.part.Block.{Block}
 use Rattle.ct_verify.specs.declared.part.Part.{Part}
 use Rattle.ct_verify.specs.declared.part.Part.TheVariants as part
-use Rattle.ct_verify.specs.Step.{AfterLine, On, Failed}
+use Rattle.ct_verify.specs.Inside.Step.{AfterLine, On, Failed}
 use Rattle.ct_verify.proofs.RuleSides.{HasItsSide, line_of-side, resolved-side}
 
 -- what holds of the lines where a reading is: none before the body and in a block of evidence, which is of an id; some after `done`

@@ -15,9 +15,11 @@ use Rattle.ct_rules.specs.Listing.{rule_named}
 use Rattle.ct_rules.proofs.RuleNames.{argued-side, rule_named-is}
 use Rattle.ct_rules.proofs.LawfulRows.{parts_of-placed}
 use Rattle.ct_piece.specs.Piece.{PieceValue, place_of_id}
-use Rattle.ct_verify.specs.StatedRule.{first_argument, second_argument, first_id, numbered, citing, with_words, stated_rule, resolved}
+use Rattle.ct_verify.specs.Stated.{resolved}
+use Rattle.ct_verify.specs.Inside.StatedRule.{first_argument, second_argument, first_id, numbered, citing, with_words, stated_rule}
 use Rattle.ct_text.specs.Side.{side_of_word}
-use Rattle.ct_verify.specs.StatedLine.{StatedLineValue, entry_of_words, bound_of_word, premises_of_words, claim_of, line_from, with_rule, with_reason, with_value, line_of}
+use Rattle.ct_verify.specs.Stated.{entry_of_words}
+use Rattle.ct_verify.specs.Inside.StatedLine.{StatedLineValue, bound_of_word, premises_of_words, claim_of, line_from, with_rule, with_reason, with_value, line_of}
 use Rattle.ct_verify.specs.declared.stated_rule.StatedRule.{StatedRule}
 
 -- nothing is not something

@@ -5,9 +5,10 @@ use Rattle.std.specs.Str.{bytes_eq}
 use Rattle.ct_words.specs.declared.claim.Claim.{Claim}
 use Rattle.ct_text.specs.Number.{number_of}
 use Rattle.ct_text.specs.Side.{side_of_word}
-use Rattle.ct_verify.specs.StatedRule.{stated_rule}
+use Rattle.ct_verify.specs.Inside.StatedRule.{stated_rule}
 use Rattle.ct_verify.specs.declared.stated_rule.StatedRule.{StatedRule}
-use Rattle.ct_verify.specs.StatedLine.{entry_of_words, bound_of_word, claim_of, with_rule, with_reason, with_value}
+use Rattle.ct_verify.specs.Stated.{entry_of_words}
+use Rattle.ct_verify.specs.Inside.StatedLine.{bound_of_word, claim_of, with_rule, with_reason, with_value}
 
 -- all words but the first two
 without_two : {A : Type 0} (first second : A) (words : List A) → take (length (first ∷ second ∷ words) - 2) words ≡ words

@@ -9,7 +9,7 @@ use Rattle.std.proofs.lemmas.List.Splits.{length-slice_split}
 use Rattle.ct_text.specs.Line.{words_of}
 use Rattle.ct_text.specs.Number.{number_of}
 use Rattle.ct_derive.specs.Check.{and_values}
-use Rattle.ct_verify.specs.StatedLine.{all_numbers, line_of}
+use Rattle.ct_verify.specs.Inside.StatedLine.{all_numbers, line_of}
 
 stripped-short : (line : List ℕ) → length (strip_carriage_return line) ≤ length line
 stripped-short line = at (slice_index line (length line - 1) == 13) where

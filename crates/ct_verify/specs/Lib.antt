@@ -1,10 +1,6 @@
 pub mod Heading
-pub mod StatedRule
-pub mod StatedLine
-pub mod Read
-pub mod Step
-pub mod Reading
-pub mod Verdict
+pub mod Stated
+pub mod Document
 pub mod Text
 pub mod Verification
 pub mod Inside

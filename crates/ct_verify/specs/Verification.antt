@@ -2,7 +2,7 @@
 use Rattle.std.specs.Prelude.{◌≡◌, ℕ, Bool, true, false, List, [], ◌∷◌, ◌++◌, codes}
 use Rattle.ct_text.specs.declared.document_lines.TheConstants.{LINE_FEED}
 use Rattle.ct_verify.specs.Text.{verdict_text}
-use Rattle.ct_verify.specs.Verdict.{IsVerified}
+use Rattle.ct_verify.specs.Document.{IsVerified}
 use Rattle.ct_verify.specs.declared.verdict.Verdict.{Verdict}
 use Rattle.ct_verify.specs.declared.verdict.Verdict.TheVariants.{Yes, No}
 

@@ -19,7 +19,7 @@ pub struct Reading {
 impl Model for Reading {
     ghost use Rattle.std.specs.Prelude.{◌≡◌};
     ghost use Rattle.ct_piece.specs.Supports.{supports_of};
-    ghost use Rattle.ct_verify.specs.Read.{ReadingValue};
+    ghost use Rattle.ct_verify.specs.Inside.Read.{ReadingValue};
 
     ghost Value = { ReadingValue };
 

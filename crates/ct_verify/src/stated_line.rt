@@ -3,7 +3,8 @@
 ghost use Rattle.std.specs.Prelude.{◌≡◌, drop, map, IfOk, option_map};
 ghost use Rattle.ct_text.specs.Number.{number_of};
 ghost use Rattle.ct_text.specs.Side.{side_of_word};
-ghost use Rattle.ct_verify.specs.StatedLine.{entry_of_words, bound_of_word, all_numbers, premises_of_words, claim_of, with_rule, with_reason, with_value, line_of};
+ghost use Rattle.ct_verify.specs.Stated.{entry_of_words};
+ghost use Rattle.ct_verify.specs.Inside.StatedLine.{bound_of_word, all_numbers, premises_of_words, claim_of, with_rule, with_reason, with_value, line_of};
 
 use crate::stated_rule::{StatedRule, parse_rule};
 use ct_text::{parse_entry_numbers, parse_number, parse_side};
@@ -25,7 +26,7 @@ pub struct StatedLine {
 }
 
 impl Model for StatedLine {
-    ghost use Rattle.ct_verify.specs.StatedLine.{StatedLineValue};
+    ghost use Rattle.ct_verify.specs.Inside.StatedLine.{StatedLineValue};
 
     ghost Value = { StatedLineValue };
 

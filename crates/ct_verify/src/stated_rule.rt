@@ -4,7 +4,8 @@ ghost use Rattle.std.specs.Prelude.{◌≡◌, ◌-◌, ◌^◌, nat_lt, if◌th
 ghost use Rattle.ct_text.specs.Number.{number_of};
 ghost use Rattle.ct_names.specs.Id.{is_id};
 ghost use Rattle.ct_piece.specs.Piece.{place_of_id};
-ghost use Rattle.ct_verify.specs.StatedRule.{argument_of, first_argument, second_argument, first_id, numbered, citing, with_words, stated_rule, resolved};
+ghost use Rattle.ct_verify.specs.Stated.{argument_of, resolved};
+ghost use Rattle.ct_verify.specs.Inside.StatedRule.{first_argument, second_argument, first_id, numbered, citing, with_words, stated_rule};
 
 use ct_names::Id;
 use ct_pieces::Pieces;

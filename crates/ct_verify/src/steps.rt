@@ -6,11 +6,12 @@ ghost use Rattle.ct_text.specs.Gathering.{gathered};
 ghost use Rattle.ct_rules.specs.Rule.{rule_side};
 ghost use Rattle.ct_piece.specs.Submission.{submitted};
 ghost use Rattle.ct_verify.specs.Heading.{heading_of};
-ghost use Rattle.ct_verify.specs.StatedLine.{StatedLineValue, line_of};
-ghost use Rattle.ct_verify.specs.Read.{unread};
+ghost use Rattle.ct_verify.specs.Inside.StatedLine.{StatedLineValue, line_of};
+ghost use Rattle.ct_verify.specs.Inside.Read.{unread};
 ghost use Rattle.ct_verify.specs.Inside.Steps.{step_of, is_end};
-ghost use Rattle.ct_verify.specs.Reading.{why_of, by_rule, read_line, read_heading, is_only, read_body, after_block, read_block, read_next};
-ghost use Rattle.ct_verify.specs.Verdict.{verdict_at_end};
+ghost use Rattle.ct_verify.specs.Document.{why_of};
+ghost use Rattle.ct_verify.specs.Inside.Reading.{by_rule, read_line, read_heading, is_only, read_body, after_block, read_block, read_next};
+ghost use Rattle.ct_verify.specs.Inside.Verdict.{verdict_at_end};
 
 use crate::failure::Failure;
 use crate::heading::{Heading, parse_heading};
@@ -227,7 +228,7 @@ impl Reading {
     }
 
     /// Reads one more text line, the one with this number: where it fails, that. `Err` is want of memory.
-    #[tactic(auto, unfolding(crate::specs::Reading::read_next))]
+    #[tactic(auto, unfolding(crate::specs::Inside::Reading::read_next))]
     pub(crate) fn read(
         &mut self,
         alloc: Global,

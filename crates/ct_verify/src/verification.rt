@@ -5,7 +5,7 @@ ghost use Rattle.std.specs.Io.KnownBytes.{Appends, IsAtEnd};
 ghost use Rattle.ct_io.specs.Faults.{Rose};
 ghost use Rattle.ct_io.specs.Told.{AppendsProperPrefix, IsAboveLimit, WhereTold};
 ghost use Rattle.ct_io.specs.declared.TheConstants.{MAX_INPUT, MAX_READ};
-ghost use Rattle.ct_verify.specs.Verdict.{verdict_of};
+ghost use Rattle.ct_verify.specs.Inside.Verdict.{verdict_of};
 ghost use Rattle.ct_verify.specs.Verification.{is_no, verdict_line};
 
 use crate::text::verdict_text;

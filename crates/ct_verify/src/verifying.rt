@@ -1,7 +1,8 @@
 //! The verdict on a derivation document.
 
 ghost use Rattle.std.specs.Prelude.{◌≡◌, IfOk};
-ghost use Rattle.ct_verify.specs.Verdict.{verdict_of, IsVerified};
+ghost use Rattle.ct_verify.specs.Inside.Verdict.{verdict_of};
+ghost use Rattle.ct_verify.specs.Document.{IsVerdict};
 ghost use Rattle.ct_verify.specs.declared.verdict.Verdict.TheVariants.{Yes};
 
 use crate::reading::Reading;
@@ -33,7 +34,7 @@ fn first_verdict(alloc: Global, document: &[u8]) -> Result<Verdict, AllocError>
 /// of memory.
 pub fn verify(alloc: Global, document: &[u8]) -> Result<Verdict, AllocError>
     ensures verdict { IfOk result (λ verdict. verdict ≡ verdict_of document.now) }
-    ensures verified { IfOk result (λ verdict. verdict ≡ Yes → IsVerified document.now) }
+    ensures stated { IfOk result (λ verdict. IsVerdict document.now verdict) }
 {
     first_verdict(alloc, document)
 }

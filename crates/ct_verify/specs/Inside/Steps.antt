@@ -1,8 +1,8 @@
 -- How a text line was read.
 use Rattle.std.specs.Prelude.{ℕ, ◌==◌, ◌&&◌, not, Bool, List, length, Option, Some, None, codes}
-use Rattle.ct_verify.specs.Read.{ReadingValue}
-use Rattle.ct_verify.specs.Reading.{is_only}
-use Rattle.ct_verify.specs.Step.{AfterLine, On, Failed}
+use Rattle.ct_verify.specs.Inside.Read.{ReadingValue}
+use Rattle.ct_verify.specs.Inside.Reading.{is_only}
+use Rattle.ct_verify.specs.Inside.Step.{AfterLine, On, Failed}
 use Rattle.ct_verify.specs.declared.failure.Failure.{Failure}
 
 -- a failure, or else this that was read

@@ -1,6 +1,6 @@
 use Rattle.std.proofs.Common.{ℕ, Bor, List, ◌++◌, drop, map, append-nil, Some, option_map, sym, ap, ◌∙◌, ◌+◌}
 use Rattle.std.proofs.lemmas.List.{drop_all}
-use Rattle.ct_verify.specs.StatedLine.{all_numbers}
+use Rattle.ct_verify.specs.Inside.StatedLine.{all_numbers}
 use Rattle.ct_verify.proofs.WordLemmas.{numbers-next, numbers-push}
 use Rattle.ct_verify.proofs.stated_line.parse_numbers.Goals as goal
 

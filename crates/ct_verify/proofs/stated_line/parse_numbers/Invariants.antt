@@ -1,5 +1,5 @@
 use Rattle.std.proofs.Common.{◌≡◌, ◌++◌, drop, map, option_map}
-use Rattle.ct_verify.specs.StatedLine.{all_numbers}
+use Rattle.ct_verify.specs.Inside.StatedLine.{all_numbers}
 use Rattle.ct_verify.proofs.stated_line.parse_numbers.Given as goal
 
 -- with the numbers of the words that are left, the numbers so far are all

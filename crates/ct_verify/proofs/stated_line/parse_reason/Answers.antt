@@ -1,7 +1,7 @@
 use Rattle.std.proofs.Common.{◌≡◌, Option, get_or, refl, sym, ap, subst, ◌∙◌}
 use Rattle.std.specs.Prelude.{IfOk}
 use Rattle.std.specs.Str.{bytes_eq}
-use Rattle.ct_verify.specs.StatedLine.{StatedLineValue}
+use Rattle.ct_verify.specs.Inside.StatedLine.{StatedLineValue}
 use Rattle.ct_verify.proofs.StatedSteps.{reasoned}
 use Rattle.ct_verify.proofs.stated_line.parse_reason.Goals as goal
 

@@ -2,7 +2,7 @@ use Rattle.std.proofs.Common.{◌≡◌, List, ℕ, ap, ◌∙◌, subst}
 use Rattle.std.specs.Io.KnownBytes.{Appends}
 use Rattle.std.proofs.KnownBytes.{Consumes-whole}
 use Rattle.ct_io.specs.Told.{AppendsProperPrefix}
-use Rattle.ct_verify.specs.Verdict.{verdict_of}
+use Rattle.ct_verify.specs.Inside.Verdict.{verdict_of}
 use Rattle.ct_verify.specs.Verification.{is_no, verdict_line}
 use Rattle.ct_verify.proofs.LimitLemmas.{never_too_long, no_fault}
 use Rattle.ct_verify.proofs.verification.verify_source.Goals as goal

@@ -1,6 +1,6 @@
 use Rattle.std.proofs.Common.{◌≡◌, ◌≤◌, ◌+◌, length}
 use Rattle.ct_io.specs.Lines.{lines_of}
-use Rattle.ct_verify.specs.Verdict.{verdict_of, verdict_from}
+use Rattle.ct_verify.specs.Inside.Verdict.{verdict_of, verdict_from}
 use Rattle.ct_verify.proofs.verifying.first_verdict.Given as goal
 
 -- the verdict on what is left, after what was read, is the verdict; a text line's number is no greater than the bytes before it and one

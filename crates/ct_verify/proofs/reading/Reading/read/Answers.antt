@@ -1,10 +1,10 @@
 use Rattle.std.proofs.Common.{map, sym, ap, ◌∙◌}
 use Rattle.std.specs.Prelude.{codes}
-use Rattle.ct_verify.specs.Read.{ReadingValue, in_part}
-use Rattle.ct_verify.specs.Reading.{is_only}
+use Rattle.ct_verify.specs.Inside.Read.{ReadingValue, in_part}
+use Rattle.ct_verify.specs.Inside.Reading.{is_only}
 use Rattle.ct_verify.specs.declared.part.Part.{Part}
 use Rattle.ct_verify.specs.declared.part.Part.TheVariants as part
-use Rattle.ct_verify.specs.Step.{On}
+use Rattle.ct_verify.specs.Inside.Step.{On}
 use Rattle.ct_verify.proofs.FailedLines.{failed_so, failed_at_done, failed_at_start}
 use Rattle.ct_verify.proofs.LineSteps.{started}
 use Rattle.ct_verify.proofs.reading.Reading.read.Goals as goal

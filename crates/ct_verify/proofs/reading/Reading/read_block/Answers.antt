@@ -1,8 +1,8 @@
 use Rattle.std.proofs.Common.{sym, ap, ◌∙◌}
-use Rattle.ct_verify.specs.Read.{ReadingValue, in_part}
-use Rattle.ct_verify.specs.Reading.{read_block}
+use Rattle.ct_verify.specs.Inside.Read.{ReadingValue, in_part}
+use Rattle.ct_verify.specs.Inside.Reading.{read_block}
 use Rattle.ct_verify.specs.declared.part.Part.TheVariants as part
-use Rattle.ct_verify.specs.Step.{On}
+use Rattle.ct_verify.specs.Inside.Step.{On}
 use Rattle.ct_verify.proofs.reading.Reading.read_block.Goals as goal
 
 pub returns-in-More : goal.returns-in-More

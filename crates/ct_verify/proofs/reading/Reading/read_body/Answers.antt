@@ -2,10 +2,10 @@ use Rattle.std.proofs.Common.{◌≡◌, refl, subst, rules, true, false, get_or
 use Rattle.std.specs.Str.{bytes_eq}
 use Rattle.std.specs.Prelude.{IfOk}
 use Rattle.ct_verify.specs.Inside.Steps.{step_of}
-use Rattle.ct_verify.specs.Reading.{read_line, read_heading}
-use Rattle.ct_verify.specs.Read.{ReadingValue, in_part}
+use Rattle.ct_verify.specs.Inside.Reading.{read_line, read_heading}
+use Rattle.ct_verify.specs.Inside.Read.{ReadingValue, in_part}
 use Rattle.ct_verify.specs.declared.part.Part.TheVariants as part
-use Rattle.ct_verify.specs.Step.{AfterLine, On}
+use Rattle.ct_verify.specs.Inside.Step.{AfterLine, On}
 use Rattle.ct_verify.proofs.FailedLines.{failed_so, failed_without_words}
 use Rattle.ct_verify.proofs.LineSteps.{otherwise, lined, headed}
 use Rattle.ct_verify.proofs.RuleSides.{line_of-sides}

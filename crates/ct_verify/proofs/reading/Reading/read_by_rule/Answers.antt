@@ -1,5 +1,5 @@
 use Rattle.std.proofs.Common.{sym, ap, ◌∙◌}
-use Rattle.ct_verify.specs.Reading.{by_rule}
+use Rattle.ct_verify.specs.Inside.Reading.{by_rule}
 use Rattle.ct_verify.proofs.FailedLines.{failed_so}
 use Rattle.ct_verify.proofs.reading.Reading.read_by_rule.Goals as goal
 

@@ -1,12 +1,12 @@
 use Rattle.std.proofs.Common.{◌≡◌, ℕ, ◌+◌, length, rules, Option, ap, sym, subst, ◌∙◌}
 use Rattle.std.specs.Prelude.{IfOk, IfSome}
 use Rattle.ct_rules.specs.Rule.{rule_side}
-use Rattle.ct_verify.specs.Read.{ReadingValue}
-use Rattle.ct_verify.specs.StatedLine.{StatedLineValue}
-use Rattle.ct_verify.specs.StatedRule.{resolved}
+use Rattle.ct_verify.specs.Inside.Read.{ReadingValue}
+use Rattle.ct_verify.specs.Inside.StatedLine.{StatedLineValue}
+use Rattle.ct_verify.specs.Stated.{resolved}
 use Rattle.ct_verify.specs.Inside.Steps.{step_of}
-use Rattle.ct_verify.specs.Step.{AfterLine}
-use Rattle.ct_verify.specs.Reading.{read_line}
+use Rattle.ct_verify.specs.Inside.Step.{AfterLine}
+use Rattle.ct_verify.specs.Inside.Reading.{read_line}
 use Rattle.ct_verify.proofs.FailedLines.{failed_so}
 use Rattle.ct_verify.proofs.LineSteps.{other_number}
 use Rattle.ct_verify.proofs.RuleSides.{HasItsSide, resolved-sides}

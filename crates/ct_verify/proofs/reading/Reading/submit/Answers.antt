@@ -2,10 +2,10 @@ use Rattle.std.proofs.Common.{sym, ap, ◌∙◌, List}
 use Rattle.ct_piece.specs.Piece.{PieceValue}
 use Rattle.ct_piece.specs.Submission.{submitted}
 use Rattle.ct_piece.specs.Supports.{supports_of}
-use Rattle.ct_verify.specs.Read.{ReadingValue}
-use Rattle.ct_verify.specs.Reading.{and_piece, after_block}
+use Rattle.ct_verify.specs.Inside.Read.{ReadingValue}
+use Rattle.ct_verify.specs.Inside.Reading.{and_piece, after_block}
 use Rattle.ct_verify.specs.declared.part.Part.TheVariants as part
-use Rattle.ct_verify.specs.Step.{On}
+use Rattle.ct_verify.specs.Inside.Step.{On}
 use Rattle.ct_verify.proofs.FailedLines.{failed_so}
 use Rattle.ct_verify.proofs.LineSteps.{one_more}
 use Rattle.ct_verify.proofs.reading.Reading.submit.Goals as goal

@@ -8,10 +8,11 @@ use Rattle.ct_words.specs.declared.claim.Side.{Side}
 use Rattle.ct_words.specs.declared.claim.Claim.{Claim}
 use Rattle.ct_text.specs.Number.{number_of}
 use Rattle.ct_text.specs.Side.{side_of_word}
-use Rattle.ct_text.specs.EntryNumbers.{entry_numbers_of, named_entry}
 use Rattle.ct_derive.specs.Check.{and_values}
-use Rattle.ct_verify.specs.StatedRule.{stated_rule}
+use Rattle.ct_verify.specs.Stated.{entry_of_words}
+use Rattle.ct_verify.specs.Inside.StatedRule.{stated_rule}
 use Rattle.ct_verify.specs.declared.stated_rule.StatedRule.{StatedRule}
+use Rattle.ct_rules.specs.declared.rule.Rule.{Rule}
 
 -- a line as it is stated: its number, what it claims, its rule, and the numbers of the lines that hold the premises
 pub record StatedLineValue : Type 0 where
@@ -19,10 +20,6 @@ pub record StatedLineValue : Type 0 where
   pub claim : Claim
   pub rule : StatedRule
   pub from : List ℕ
-
--- the entry of the table that the words name
-abbrev pub entry_of_words : List (List ℕ) → Option Entry
-entry_of_words words = option_and_then named_entry (entry_numbers_of words)
 
 -- the bound that a word writes: from 1 to MAX_BOUND
 abbrev pub bound_of_word : List ℕ → Option ℕ
@@ -71,3 +68,8 @@ abbrev pub line_of : List (List ℕ) → Option StatedLineValue
 line_of (number ∷ side ∷ n ∷ d ∷ word ∷ words) =
     if bytes_eq word (codes "value") then with_value number side (n ∷ d ∷ []) (word ∷ words) else with_value number side (n ∷ d ∷ word ∷ []) words
 line_of words = None
+
+-- the stated line of these parts, with so many words as arguments
+abbrev pub stated_as : ℕ → Claim → Rule → Option (List ℕ) → ℕ → List ℕ → StatedLineValue
+stated_as number claim rule id count from =
+    record { number = number; claim = claim; rule = record { rule = rule; id = id; arguments = count }; from = from }

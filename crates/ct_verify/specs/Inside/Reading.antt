@@ -13,18 +13,17 @@ use Rattle.ct_piece.specs.Supports.{supports_of}
 use Rattle.ct_kind.specs.declared.fault.SubmitFault.{SubmitFault}
 use Rattle.ct_derive.specs.Check.{line_fault, line_by}
 use Rattle.ct_derive.specs.declared.check.LineFault.{LineFault}
-use Rattle.ct_derive.specs.declared.check.LineFault.TheVariants.{NoRule, NoPremise, OtherValue}
-use Rattle.ct_verify.specs.Read.{ReadingValue, in_part}
+use Rattle.ct_verify.specs.Inside.Read.{ReadingValue, in_part}
+use Rattle.ct_verify.specs.Document.{why_of}
 use Rattle.ct_verify.specs.Heading.{heading_of}
-use Rattle.ct_verify.specs.StatedRule.{resolved}
-use Rattle.ct_verify.specs.StatedLine.{StatedLineValue, line_of}
+use Rattle.ct_verify.specs.Stated.{resolved}
+use Rattle.ct_verify.specs.Inside.StatedLine.{StatedLineValue, line_of}
 use Rattle.ct_verify.specs.declared.heading.Heading.{Heading}
-use Rattle.ct_verify.specs.declared.verdict.Why.{Why}
 use Rattle.ct_verify.specs.declared.verdict.Why.TheVariants as why
 use Rattle.ct_verify.specs.declared.part.Block.{Block}
 use Rattle.ct_verify.specs.declared.part.Part.{Part}
 use Rattle.ct_verify.specs.declared.part.Part.TheVariants as part
-use Rattle.ct_verify.specs.Step.{AfterLine, On, Failed}
+use Rattle.ct_verify.specs.Inside.Step.{AfterLine, On, Failed}
 
 -- one more piece
 abbrev pub and_piece : ReadingValue → PieceValue → ReadingValue
@@ -33,12 +32,6 @@ and_piece r piece = record { pieces = r.pieces ++ piece ∷ []; lines = r.lines;
 -- one more line
 abbrev pub and_line : ReadingValue → LineValue → ReadingValue
 and_line r line = record { pieces = r.pieces; lines = r.lines ++ line ∷ []; part = part.Body }
-
--- why a line fails that does not follow from those before it
-abbrev pub why_of : LineFault → Why
-why_of NoRule = why.Rule
-why_of NoPremise = why.Premise
-why_of (OtherValue stated given) = why.Value stated given
 
 -- after a line with this fault, or with none
 abbrev pub unless_wrong : ReadingValue → ℕ → LineValue → Option LineFault → AfterLine

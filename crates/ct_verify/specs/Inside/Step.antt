@@ -1,6 +1,6 @@
 -- What follows from a text line of a derivation document.
 use Rattle.std.specs.Prelude.{ℕ}
-use Rattle.ct_verify.specs.Read.{ReadingValue}
+use Rattle.ct_verify.specs.Inside.Read.{ReadingValue}
 use Rattle.ct_verify.specs.declared.verdict.Why.{Why}
 
 -- what was read, with this line; or the text line that fails, counted from 1, and why

@@ -1,18 +1,14 @@
 -- The verdict on a derivation document.
-use Rattle.std.specs.Prelude.{◌≡◌, ℕ, ◌+◌, List, [], ◌∷◌, All}
+use Rattle.std.specs.Prelude.{◌≡◌, ℕ, ◌+◌, List, [], ◌∷◌}
 use Rattle.ct_io.specs.Lines.{lines_of}
-use Rattle.ct_words.specs.Claim.{IsTrueClaim}
-use Rattle.ct_rules.specs.Derivation.{IsDerivation}
-use Rattle.ct_piece.specs.Standing.{AreStanding}
-use Rattle.ct_piece.specs.Supports.{supports_of}
-use Rattle.ct_verify.specs.Read.{ReadingValue, unread}
-use Rattle.ct_verify.specs.Reading.{read_next}
+use Rattle.ct_verify.specs.Inside.Read.{ReadingValue, unread}
+use Rattle.ct_verify.specs.Inside.Reading.{read_next}
 use Rattle.ct_verify.specs.declared.verdict.Why.TheVariants.{Form}
 use Rattle.ct_verify.specs.declared.verdict.Verdict.{Verdict}
 use Rattle.ct_verify.specs.declared.verdict.Verdict.TheVariants.{Yes, No}
 use Rattle.ct_verify.specs.declared.part.Part.{Part}
 use Rattle.ct_verify.specs.declared.part.Part.TheVariants.{Start, Body, Evidence, Done}
-use Rattle.ct_verify.specs.Step.{AfterLine, On, Failed}
+use Rattle.ct_verify.specs.Inside.Step.{AfterLine, On, Failed}
 
 -- the verdict where the text lines end at this part, and the next would have this number: a block that is not whole fails on the line on which it began
 abbrev pub verdict_at_end : Part → ℕ → Verdict
@@ -39,13 +35,3 @@ verdict_of document = verdict_from unread 1 (lines_of document)
 abbrev pub AreRead : ReadingValue → ℕ → List (List ℕ) → ReadingValue → Type 0
 AreRead r k [] s = r ≡ s
 AreRead r k (text ∷ texts) s = (next : ReadingValue) × (read_next r k text ≡ On next) × AreRead next (k + 1) texts s
-
--- a document is verified: its text lines are read from the first to the last, with no failure, and the last part is `done`; the pieces of its evidence stand, its lines
--- are a derivation over what these give to the table, and each line's claim is true
-pub record IsVerified (document : List ℕ) : Type 0 where
-  pub reading : ReadingValue
-  pub read : AreRead unread 1 (lines_of document) reading
-  pub done : reading.part ≡ Done
-  pub standing : AreStanding reading.pieces
-  pub derivation : IsDerivation (supports_of reading.pieces) reading.lines
-  pub claims : All (λ l. IsTrueClaim l.claim) reading.lines

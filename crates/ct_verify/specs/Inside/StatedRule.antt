@@ -1,20 +1,15 @@
 -- A rule with its arguments, as the words of a line state them.
-use Rattle.std.specs.Prelude.{ℕ, ◌-◌, ◌^◌, nat_lt, if◌then◌else◌, List, [], ◌∷◌, Option, Some, None, option_map}
+use Rattle.std.specs.Prelude.{ℕ, if◌then◌else◌, List, [], ◌∷◌, Option, Some, None, option_map}
 use Rattle.std.specs.Option.{option_and_then}
 use Rattle.ct_words.specs.declared.claim.Side.{Side}
 use Rattle.ct_names.specs.Id.{is_id}
-use Rattle.ct_text.specs.Number.{number_of}
 use Rattle.ct_rules.specs.declared.arguments.Arguments.{Arguments}
 use Rattle.ct_rules.specs.declared.arguments.Arguments.TheVariants.{Nothing, Number, Numbers, Place}
 use Rattle.ct_rules.specs.declared.rule.Rule.{Rule}
-use Rattle.ct_rules.specs.Rule.{arguments_of, with_arguments, with_place}
+use Rattle.ct_rules.specs.Rule.{arguments_of, with_arguments}
 use Rattle.ct_rules.specs.Listing.{rule_named}
-use Rattle.ct_piece.specs.Piece.{PieceValue, place_of_id}
+use Rattle.ct_verify.specs.Stated.{argument_of}
 use Rattle.ct_verify.specs.declared.stated_rule.StatedRule.{StatedRule}
-
--- the number that an argument writes; one from 2^32 on stands for the greatest below it: neither is an argument of a rule at any entry
-abbrev pub argument_of : List ℕ → Option ℕ
-argument_of word = option_map (λ n. if nat_lt n (2 ^ 32) then n else 2 ^ 32 - 1) (number_of word)
 
 -- a rule that states so many arguments, and no piece
 abbrev pub numbered : ℕ → Rule → StatedRule
@@ -50,12 +45,3 @@ with_words rule (Place place) words = option_map (citing rule) (first_id words)
 -- the rule of this side that a name and the words after it state
 abbrev pub stated_rule : Side → List ℕ → List (List ℕ) → Option StatedRule
 stated_rule side name words = option_and_then (λ rule. with_words rule (arguments_of rule) words) (rule_named side name)
-
--- a rule that names the piece at the place, where there is one
-abbrev pub at_place : Rule → Option ℕ → Option Rule
-at_place rule place = option_map (with_place rule) place
-
--- a stated rule over the pieces: where it names one, with its place, and nothing where no piece has the id
-abbrev pub resolved : List PieceValue → Rule → Option (List ℕ) → Option Rule
-resolved pieces rule None = Some rule
-resolved pieces rule (Some id) = at_place rule (place_of_id id pieces)
