@@ -97,6 +97,24 @@ fn run_mode<S: Source, K: Sink>(alloc: Global, mode: Mode, source: &mut S, sink:
     }
 }
 
+/// Runs the mode that the words name, or writes the usage line.
+fn run_words<S: Source, K: Sink>(
+    alloc: Global,
+    words: &[String],
+    source: &mut S,
+    sink: &mut K,
+) -> Status
+    ensures ran { Ran (mode_of (bytes_of words.now)) result (S.left source.old) (S.left source.new) (K.holds sink.old) (K.holds sink.new)
+        (S.faults source.old) (S.faults source.new) (K.faults sink.old) (K.faults sink.new) }
+    ensures unread { option_map reads (mode_of (bytes_of words.now)) ≢ Some true → source.new ≡ source.old }
+{
+    match named_mode(alloc, words) {
+        Ok(Some(mode)) => run_mode(alloc, mode, source, sink),
+        Ok(None) => write_usage(sink),
+        Err(_) => Status::Memory,
+    }
+}
+
 /// Runs the program on the words after its name, as `clap` reads them. Where they name a mode, it reads the source, if the mode has an input, and writes the
 /// mode's output to the sink. Other words are answered by the usage line, and nothing is read.
 pub fn run<S: Source, K: Sink>(
@@ -159,9 +177,5 @@ pub fn run<S: Source, K: Sink>(
         → ¬ Rose (K.faults sink.old) (K.faults sink.new)
         → IsRunStatus result ⊎ (result ≡ Status.Memory)) }
 {
-    match named_mode(alloc, words) {
-        Ok(Some(mode)) => run_mode(alloc, mode, source, sink),
-        Ok(None) => write_usage(sink),
-        Err(_) => Status::Memory,
-    }
+    run_words(alloc, words, source, sink)
 }
