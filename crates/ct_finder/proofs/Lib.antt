@@ -1,4 +1,5 @@
 pub mod Divisors
+pub mod EuclidRuns
 pub mod Entries
 pub mod Crossed
 pub mod Sums

@@ -7,8 +7,15 @@ use Rattle.std.proofs.lemmas.List.{drop_all}
 use mir.Val.{SFits}
 use mir.Syntax.{w64, w128}
 use Rattle.ct_finder.specs.Divisor.{gcd, gcd_of}
+use Rattle.ct_finder.proofs.Divisors.{gcd_of-fold}
 use Rattle.ct_finder.proofs.CrossedRows.{length-crossed, crossed-at, with_entry, divisor-more, divisor-one}
 use Rattle.ct_finder.proofs.row.gcd_of_crossed.Goals as goal
+
+pub loop-j-init : goal.loop-j-init
+loop-j-init c =
+    let fp : SFits w64 c.args.p = c.ranges.p in
+    let fr : SFits w64 c.args.r = c.ranges.r in
+    (simp to_z-of_z (sym (gcd_of-fold (crossed c.args.p c.args.r c.args.pivot.now c.args.row.now))), omega arith)
 
 pub loop-j-preserved : goal.loop-j-preserved
 loop-j-preserved c =
