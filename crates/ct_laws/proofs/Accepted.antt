@@ -14,7 +14,8 @@ use Rattle.ct_kind.specs.Named.{is_known, first_missing}
 use Rattle.ct_files.specs.ByKind.{stated_entry, ids_of_parts, own_reason, words_over}
 use Rattle.ct_piece.specs.Piece.{PieceValue, has_id}
 use Rattle.ct_piece.specs.Codes.{codes_of}
-use Rattle.ct_piece.specs.Submission.{piece_of, made_unless, piece_from, submitted, IsAccepted}
+use Rattle.ct_piece.specs.Submission.{piece_of, piece_from, submitted, IsAccepted}
+use Rattle.ct_piece.specs.Inside.Making.{made_unless}
 use Rattle.ct_piece.specs.Standing.{AreStanding}
 use Rattle.ct_kind.specs.declared.fault.SubmitFault.{SubmitFault}
 use Rattle.ct_kind.specs.declared.fault.SubmitFault.TheVariants as fault

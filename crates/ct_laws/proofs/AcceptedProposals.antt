@@ -15,7 +15,8 @@ use Rattle.ct_files.proofs.Documents.{document_read_of-without_limit}
 use Rattle.ct_kind.specs.Named.{NamedCode}
 use Rattle.ct_piece.specs.Piece.{PieceValue, stored_by, stored_words}
 use Rattle.ct_piece.specs.Codes.{codes_of}
-use Rattle.ct_piece.specs.Submission.{made_of, piece_of, made_unless, piece_from, submitted}
+use Rattle.ct_piece.specs.Submission.{piece_of, piece_from, submitted}
+use Rattle.ct_piece.specs.Inside.Making.{made_of, made_unless}
 use Rattle.ct_kind.specs.declared.fault.SubmitFault.TheVariants as fault
 use Rattle.ct_piece.specs.declared.limits.TheConstants.{MAX_PIECES, MAX_STORED}
 use Rattle.ct_piece.proofs.Accepting.{not_taken}

@@ -15,7 +15,8 @@ use Rattle.ct_files.specs.ByKind.{stated_entry, size_over}
 use Rattle.ct_piece.specs.Piece.{PieceValue, has_id, stored_by, stored_words}
 use Rattle.ct_piece.specs.Codes.{named_code, codes_after, codes_of}
 use Rattle.ct_files.specs.ByKind.{evidence_reason}
-use Rattle.ct_piece.specs.Submission.{piece_of, made_unless, made_of, piece_from, stored_beside, unless_full, submitted}
+use Rattle.ct_piece.specs.Submission.{piece_of, piece_from, submitted}
+use Rattle.ct_piece.specs.Inside.Making.{made_unless, made_of, stored_beside, unless_full}
 use Rattle.ct_piece.specs.Supports.{support_of, supports_of}
 use Rattle.ct_rule_parts.specs.declared.support.Support.{Support}
 use Rattle.ct_piece.specs.Withdrawal.{names_any, ids_along, taken_along}

@@ -14,7 +14,8 @@ use Rattle.ct_piece.specs.declared.fault.WithdrawFault.TheVariants as withdraw
 use Rattle.ct_files.specs.ByKind.{names, ids_of_parts, own_reason}
 use Rattle.ct_piece.specs.Piece.{PieceValue, has_id, stored_by, stored_words, first_user}
 use Rattle.ct_piece.specs.Codes.{codes_of}
-use Rattle.ct_piece.specs.Submission.{piece_of, made_unless, piece_from, stored_beside, unless_full, submitted}
+use Rattle.ct_piece.specs.Submission.{piece_of, piece_from, submitted}
+use Rattle.ct_piece.specs.Inside.Making.{made_unless, stored_beside, unless_full}
 use Rattle.ct_laws.specs.Refusals.{HasRoom, IsRead, IsFirstMissing, IsOwnReason, IsRefused, IsFirstUser, IsNotWithdrawn}
 use Rattle.ct_piece.specs.declared.limits.TheConstants.{MAX_PIECES, MAX_STORED}
 use Rattle.ct_kind.specs.declared.fault.SubmitFault.{SubmitFault}

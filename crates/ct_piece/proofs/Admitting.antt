@@ -4,7 +4,8 @@ use Rattle.ct_files.specs.Document.{DocumentValue, document_read_of}
 use Rattle.ct_kind.specs.Named.{NamedCode}
 use Rattle.ct_kind.specs.declared.fault.SubmitFault.{SubmitFault}
 use Rattle.ct_piece.specs.Piece.{PieceValue}
-use Rattle.ct_piece.specs.Submission.{made_of, piece_from}
+use Rattle.ct_piece.specs.Submission.{piece_from}
+use Rattle.ct_piece.specs.Inside.Making.{made_of}
 
 -- a document that is read makes what it states makes
 pub made_of-read : (known : List NamedCode) (id document : List ℕ) (stated : DocumentValue) (made : Result PieceValue SubmitFault) → document_read_of document ≡ Ok stated

@@ -14,7 +14,8 @@ use Rattle.ct_piece.specs.Piece.{PieceValue, first_user}
 use Rattle.ct_kind.specs.Ascending.{code_at}
 use Rattle.ct_piece.specs.Codes.{named_code, codes_after, codes_of}
 use Rattle.ct_files.specs.ByKind.{evidence_reason}
-use Rattle.ct_piece.specs.Submission.{made_unless, piece_from}
+use Rattle.ct_piece.specs.Submission.{piece_from}
+use Rattle.ct_piece.specs.Inside.Making.{made_unless}
 use Rattle.ct_piece.specs.Standing.{IsMade, AreMade}
 use Rattle.ct_files.specs.ByKind.{is_kept, kept_over}
 use Rattle.ct_piece.specs.Inside.Kept.{kept_after}

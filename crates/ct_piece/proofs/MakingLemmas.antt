@@ -12,7 +12,8 @@ use Rattle.ct_piece.specs.Piece.{PieceValue}
 use Rattle.ct_files.specs.ByKind.{code_over}
 use Rattle.ct_piece.specs.Codes.{named_code, codes_after, codes_of, code_of_place}
 use Rattle.ct_files.specs.ByKind.{evidence_reason}
-use Rattle.ct_piece.specs.Submission.{piece_of, made_unless, piece_from}
+use Rattle.ct_piece.specs.Submission.{piece_of, piece_from}
+use Rattle.ct_piece.specs.Inside.Making.{made_unless}
 use Rattle.ct_piece.specs.Standing.{IsMade, AreMade}
 use Rattle.ct_kind.specs.declared.fault.SubmitFault.{SubmitFault}
 use Rattle.ct_piece.proofs.CodeLemmas.{made_at, code_at_place}

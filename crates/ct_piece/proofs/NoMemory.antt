@@ -9,7 +9,8 @@ use Rattle.ct_kind.specs.declared.fault.SubmitFault.TheVariants.{FullPieces, NoS
 use Rattle.ct_files.specs.ByKind.{ids_of_parts, own_reason}
 use Rattle.ct_piece.specs.Piece.{PieceValue, has_id, stored_by, stored_words}
 use Rattle.ct_piece.specs.Codes.{codes_of}
-use Rattle.ct_piece.specs.Submission.{made_unless, piece_of, made_of, piece_from, stored_beside, unless_full, submitted}
+use Rattle.ct_piece.specs.Submission.{piece_of, piece_from, submitted}
+use Rattle.ct_piece.specs.Inside.Making.{made_unless, made_of, stored_beside, unless_full}
 use Rattle.ct_piece.specs.declared.limits.TheConstants.{MAX_PIECES, MAX_STORED}
 use Rattle.ct_files.proofs.OwnReasons.{reason-own}
 

@@ -20,7 +20,8 @@ use Rattle.ct_kind.specs.Named.{NamedCode}
 use Rattle.ct_files.specs.ByKind.{stated_entry, words_over}
 use Rattle.ct_piece.specs.Piece.{PieceValue, has_id, stored_by, stored_words, first_user}
 use Rattle.ct_piece.specs.Codes.{named_code, codes_of}
-use Rattle.ct_piece.specs.Submission.{piece_from, stored_beside, unless_full, submitted, with_piece}
+use Rattle.ct_piece.specs.Submission.{piece_from, submitted, with_piece}
+use Rattle.ct_piece.specs.Inside.Making.{stored_beside, unless_full}
 use Rattle.ct_piece.specs.Withdrawal.{without, withdrawn, unless_used, left_by}
 use Rattle.ct_piece.specs.Standing.{AreStanding, IsMade, AreMade, HasTrueSize}
 use Rattle.ct_piece.specs.declared.limits.TheConstants.{MAX_PIECES, MAX_STORED}

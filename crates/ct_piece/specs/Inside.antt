@@ -1,3 +1,4 @@
 -- Words that the contracts of inner functions alone cite.
 pub mod Kept
+pub mod Making
 pub mod Unmarked

@@ -1,5 +1,5 @@
 -- What a submission makes over the pieces that stand: a piece, or the first reason why it makes none.
-use Rattle.std.specs.Prelude.{◌≡◌, ◌≢◌, ◌<◌, ◌≤◌, ℕ, ◌+◌, Bool, nat_le, if◌then◌else◌, List, [], ◌∷◌, ◌++◌, length, map, All, Contains, Option, Some, None, Result, Ok, Err, IfSome}
+use Rattle.std.specs.Prelude.{◌≡◌, ◌≢◌, ◌<◌, ◌≤◌, ℕ, ◌+◌, nat_le, if◌then◌else◌, List, [], ◌∷◌, ◌++◌, length, map, All, Contains, Option, Some, None, Result, Ok, Err, IfSome}
 use Rattle.ct_words.specs.Code.{IsCodeOf}
 use Rattle.ct_fields.specs.declared.fault.DocumentFault.{DocumentFault}
 use Rattle.ct_files.specs.Document.{DocumentValue, document_read_of}
@@ -22,38 +22,26 @@ piece_of known id document stated = record {
   size = size_over known stated.evidence;
 }
 
--- the piece, where there is no reason against it
-abbrev pub made_unless : Option SubmitFault → PieceValue → Result PieceValue SubmitFault
-made_unless None piece = Ok piece
-made_unless (Some reason) piece = Err reason
-
--- the piece that a document makes which states this, over these codes, where there is no reason against its evidence
-abbrev pub made_of : List NamedCode → List ℕ → List ℕ → DocumentValue → Result PieceValue SubmitFault
-made_of known id document stated = made_unless (evidence_reason known stated.evidence) (piece_of known id document stated)
-
--- the piece of a document that was read
+-- the piece of a document that is read so, over these codes, or why there is none: the fault of the document, or the reason against its evidence
 abbrev pub piece_from : List NamedCode → List ℕ → List ℕ → Result DocumentValue DocumentFault → Result PieceValue SubmitFault
-piece_from known id document (Ok stated) = made_of known id document stated
 piece_from known id document (Err reason) = Err (fault.File reason)
+piece_from known id document (Ok stated) =
+    elim (evidence_reason known stated.evidence) [ None ↦ Ok (piece_of known id document stated) | Some reason ↦ Err reason ]
 
--- the piece where so many stored words are not too many
-abbrev pub if_stored : ℕ → PieceValue → Result PieceValue SubmitFault
-if_stored total piece = if nat_le total MAX_STORED then Ok piece else Err (fault.FullWords total)
+-- what a document that is read so makes over the pieces that stand: the piece, or the first reason why it makes none. The id is taken, there are as
+-- many pieces as may be, there is no piece of the document, or its words are too many beside those that are stored
+abbrev pub made_over : List PieceValue → List ℕ → List ℕ → Result DocumentValue DocumentFault → Result PieceValue SubmitFault
+made_over pieces id document read =
+    if has_id id pieces then Err fault.Taken
+    else if nat_le MAX_PIECES (length pieces) then Err (fault.FullPieces (length pieces))
+    else elim (piece_from (codes_of pieces) id document read) [
+      | Err reason ↦ Err reason
+      | Ok piece ↦ if nat_le (stored_words pieces + stored_by piece) MAX_STORED then Ok piece else Err (fault.FullWords (stored_words pieces + stored_by piece))
+    ]
 
--- the piece where its words may be stored beside those that are
-abbrev pub stored_beside : ℕ → Result PieceValue SubmitFault → Result PieceValue SubmitFault
-stored_beside stored (Ok piece) = if_stored (stored + stored_by piece) piece
-stored_beside stored (Err reason) = Err reason
-
--- the piece where its id is not taken and there is room for one more
-abbrev pub unless_full : Bool → ℕ → Result PieceValue SubmitFault → Result PieceValue SubmitFault
-unless_full taken count made = if taken then Err fault.Taken else (if nat_le MAX_PIECES count then Err (fault.FullPieces count) else made)
-
--- what a submission makes over the pieces that stand, which it asks whether the id is taken, how many they are, what codes they have, and how many
--- words they store
+-- what a submission makes over the pieces that stand: a piece, or the first reason why it makes none
 unfoldable pub submitted : List PieceValue → List ℕ → List ℕ → Result PieceValue SubmitFault
-submitted pieces id document =
-    unless_full (has_id id pieces) (length pieces) (stored_beside (stored_words pieces) (piece_from (codes_of pieces) id document (document_read_of document)))
+submitted pieces id document = made_over pieces id document (document_read_of document)
 
 -- the pieces with the one that is made, if one is, at the end
 abbrev pub with_piece : List PieceValue → Result PieceValue SubmitFault → List PieceValue

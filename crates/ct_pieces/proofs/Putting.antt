@@ -17,7 +17,8 @@ use Rattle.ct_piece.specs.Codes.{codes_of}
 use Rattle.ct_piece.specs.Standing.{AreStanding}
 use Rattle.ct_piece.specs.Supports.{supports_of}
 use Rattle.ct_files.specs.ByKind.{evidence_reason}
-use Rattle.ct_piece.specs.Submission.{made_unless, piece_of, made_of, if_stored, stored_beside, submitted}
+use Rattle.ct_piece.specs.Submission.{piece_of, submitted}
+use Rattle.ct_piece.specs.Inside.Making.{made_unless, made_of, if_stored, stored_beside}
 use Rattle.ct_files.specs.Checked.{IsCheck}
 use Rattle.ct_pieces.specs.Inside.Checks.{IsRefused}
 use Rattle.ct_files.specs.ByKind.{kept_over}

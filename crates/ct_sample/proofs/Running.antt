@@ -11,7 +11,8 @@ use Rattle.ct_kind.specs.Named.{NamedCode}
 use Rattle.ct_files.specs.ByKind.{words_over}
 use Rattle.ct_piece.specs.Piece.{PieceValue, has_id, stored_words, first_user}
 use Rattle.ct_piece.specs.Codes.{named_code, codes_of}
-use Rattle.ct_piece.specs.Submission.{made_of, stored_beside, with_piece}
+use Rattle.ct_piece.specs.Submission.{with_piece}
+use Rattle.ct_piece.specs.Inside.Making.{made_of, stored_beside}
 use Rattle.ct_piece.specs.Supports.{support_of, supports_of}
 use Rattle.ct_piece.specs.Withdrawal.{without, unless_used, withdrawn, left_by}
 use Rattle.ct_kind.specs.declared.fault.SubmitFault.{SubmitFault}

@@ -14,7 +14,8 @@ use Rattle.ct_files.specs.ByKind.{names}
 use Rattle.ct_piece.specs.Piece.{PieceValue, has_id, stored_by, stored_words, first_user}
 use Rattle.ct_piece.specs.Codes.{named_code, codes_after, codes_of}
 use Rattle.ct_files.specs.ByKind.{evidence_reason}
-use Rattle.ct_piece.specs.Submission.{piece_of, made_unless, made_of, stored_beside, unless_full, submitted}
+use Rattle.ct_piece.specs.Submission.{piece_of, submitted}
+use Rattle.ct_piece.specs.Inside.Making.{made_unless, made_of, stored_beside, unless_full}
 use Rattle.ct_piece.specs.Supports.{support_of, supports_of}
 use Rattle.ct_piece.specs.Withdrawal.{without, unless_used, withdrawn}
 use Rattle.ct_piece.specs.declared.limits.TheConstants.{MAX_PIECES, MAX_STORED}

@@ -1,11 +1,10 @@
 -- The run of the sample: what its commands leave. The document of a piece is written from its evidence, and nothing else is said of it; so the run
 -- speaks of the pieces without their documents.
-use Rattle.std.specs.Prelude.{ℕ, zero, suc, ◌+◌, if◌then◌else◌, List, [], length, Option, Some, None, Result, is_ok, map}
-use Rattle.ct_piece.specs.Piece.{PieceValue, has_id, stored_words}
+use Rattle.std.specs.Prelude.{ℕ, zero, suc, ◌+◌, if◌then◌else◌, List, [], Option, Some, None, Result, Ok, is_ok, map}
+use Rattle.ct_piece.specs.Piece.{PieceValue}
 use Rattle.ct_kind.specs.declared.evidence.Evidence.{Evidence}
 use Rattle.ct_files.specs.Document.{without_cites}
-use Rattle.ct_piece.specs.Codes.{codes_of}
-use Rattle.ct_piece.specs.Submission.{made_of, stored_beside, unless_full, with_piece}
+use Rattle.ct_piece.specs.Submission.{made_over, with_piece}
 use Rattle.ct_piece.specs.Withdrawal.{withdrawn, left_by}
 use Rattle.ct_kind.specs.declared.fault.SubmitFault.{SubmitFault}
 use Rattle.ct_piece.specs.declared.fault.WithdrawFault.{WithdrawFault}
@@ -25,8 +24,7 @@ without_documents pieces = map without_document pieces
 -- what evidence makes over pieces, without its document: what a submission makes of each document without cites that reads as it, but for the
 -- document
 unfoldable pub made_without_document : List PieceValue → List ℕ → Evidence → Result PieceValue SubmitFault
-made_without_document pieces id evidence =
-    unless_full (has_id id pieces) (length pieces) (stored_beside (stored_words pieces) (made_of (codes_of pieces) id [] (without_cites evidence)))
+made_without_document pieces id evidence = made_over pieces id [] (Ok (without_cites evidence))
 
 -- what commands leave: the pieces that stand, without their documents, how many submissions were accepted, and how many withdrawals were made
 pub record RunValue : Type 0 where

@@ -1,6 +1,6 @@
 use Rattle.std.proofs.Common.{Bool, if◌then◌else◌, Err, length, le-leb, sym, ap, ◌∙◌}
 use Rattle.ct_kind.specs.declared.fault.SubmitFault.TheVariants.{FullPieces}
-use Rattle.ct_piece.specs.Submission.{unless_full}
+use Rattle.ct_piece.specs.Inside.Making.{unless_full}
 use Rattle.ct_pieces.proofs.pieces.room_for.Goals as goal
 
 pub returns-then-has_id-clause-fault : goal.returns-then-has_id-clause-fault
