@@ -34,6 +34,8 @@ IsNameOrNone id = IfSome id (λ i. is_id i ≡ true)
 -- the same of a command
 abbrev pub CommandIsNamed : Command → Type 0
 CommandIsNamed (command.Submission id document) = IsNameOrNone id
+CommandIsNamed (command.Withdraw id) = is_id id ≡ true
+CommandIsNamed (command.WithdrawAll id) = is_id id ≡ true
 CommandIsNamed c = Unit {0}
 
 -- of what a line asks for
@@ -72,18 +74,18 @@ any_chosen : (b : Bool) (one other : Option Command) → AnyIsNamed one → AnyI
 any_chosen true one other h k = h
 any_chosen false one other h k = k
 
-withdraw-named : (id : Option (List ℕ)) → AnyIsNamed (option_map command.Withdraw id)
-withdraw-named None = tt
-withdraw-named (Some id) = tt
+withdraw-named : (id : Option (List ℕ)) → IsNameOrNone id → AnyIsNamed (option_map command.Withdraw id)
+withdraw-named None h = tt
+withdraw-named (Some id) h = h
 
-withdraw_all-named : (id : Option (List ℕ)) → AnyIsNamed (option_map command.WithdrawAll id)
-withdraw_all-named None = tt
-withdraw_all-named (Some id) = tt
+withdraw_all-named : (id : Option (List ℕ)) → IsNameOrNone id → AnyIsNamed (option_map command.WithdrawAll id)
+withdraw_all-named None h = tt
+withdraw_all-named (Some id) h = h
 
 withdrawal-named : (words : List (List ℕ)) → AnyIsNamed (withdrawal words)
 withdrawal-named [] = tt
-withdrawal-named (id ∷ []) = withdraw-named (id_of id)
-withdrawal-named (id ∷ word ∷ []) = any_chosen (bytes_eq word (codes "all")) _ _ (withdraw_all-named (id_of id)) tt
+withdrawal-named (id ∷ []) = withdraw-named (id_of id) (id_of-named id)
+withdrawal-named (id ∷ word ∷ []) = any_chosen (bytes_eq word (codes "all")) _ _ (withdraw_all-named (id_of id) (id_of-named id)) tt
 withdrawal-named (id ∷ word ∷ more ∷ words) = tt
 
 show-named : (numbers : Option EntryNumbers) → AnyIsNamed (option_map command.Show numbers)

@@ -13,3 +13,6 @@ pub mod StatedByKind
 pub mod GivesByKind
 pub mod OwnReasons
 pub mod Checking
+pub mod UnbrokenTexts
+pub mod RefusalTexts
+pub mod PartIds

@@ -10,4 +10,5 @@ pub mod NoMemory
 pub mod EarlierParts
 pub mod AlongLemmas
 pub mod TakenAlong
+pub mod RefusedPieces
 mod PutItems
