@@ -20,7 +20,7 @@ use Rattle.ct_commands.specs.declared.command.Command.TheVariants as command
 abbrev pub id_of : List ℕ → Option (List ℕ)
 id_of word = if is_id word then Some word else None
 
--- a submission of so many lines, where there is at least one
+-- a submission whose document has K lines, if K is a number and at least 1; else one without an id, whose document goes to the line `end`
 abbrev pub lines_form : Option (List ℕ) → Option ℕ → Form
 lines_form id (Some (suc more)) = Submit id (Lines (suc more))
 lines_form id count = Submit None ToEnd
@@ -37,12 +37,12 @@ withdrawal (id ∷ []) = option_map command.Withdraw (id_of id)
 withdrawal (id ∷ word ∷ []) = if bytes_eq word (codes "all") then option_map command.WithdrawAll (id_of id) else None
 withdrawal words = None
 
--- the command, where no words stand after its name
+-- the command, if no words stand after its name
 abbrev pub alone : Command → List (List ℕ) → Option Command
 alone c [] = Some c
 alone c (word ∷ words) = None
 
--- the explanation of the bound on a side of an entry, where both are named
+-- the explanation of the bound on a side of an entry, if both are named
 abbrev pub explanation_of : Option Side → Option EntryNumbers → Option Command
 explanation_of (Some side) (Some numbers) = Some (command.Explain side numbers)
 explanation_of side numbers = None
@@ -69,6 +69,6 @@ abbrev pub words_form : List (List ℕ) → Form
 words_form [] = Nothing
 words_form (name ∷ words) = if bytes_eq name (codes "submit") then submit_form words else Whole (unwrap_or (command_of name words) command.Unknown)
 
--- what a line asks for: nothing where its first byte is `#` (35) or where it has no words
+-- what a line asks for: nothing if its first byte is `#` (35) or it has no words
 unfoldable pub form_of : List ℕ → Form
 form_of line = if slice_index line 0 == 35 then Nothing else words_form (words_of line)

@@ -21,7 +21,7 @@ pub enum Command {
     Table(TableNumbers),
     /// An explanation of the bound on this side of the entry with these numbers.
     Explain(Side, EntryNumbers),
-    /// The words of a code of the entry with these numbers, as many as its lower bound says.
+    /// The words of a code of the entry with these numbers.
     List(EntryNumbers),
     /// A line for each piece.
     Ledger,

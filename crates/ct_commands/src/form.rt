@@ -21,8 +21,9 @@ const MOST_WORDS: usize = 6;
 pub enum Form {
     /// Nothing: a line without words, or one that begins with `#`.
     Nothing,
-    /// A submission, whose document follows: its id, if the line is `submit ID` or `submit ID lines K`, and how far the
-    /// document goes.
+    /// A submission, whose document follows: its id, and how far the document goes. If the line is not `submit ID` or
+    /// `submit ID lines K`, with a number K of at least 1, there is no id, and the document goes to the line `end`. If only
+    /// ID is no id, there is no id either, and the document goes as far as the line says.
     Submit(Option<Id>, Extent),
     /// This command, which the line is by itself.
     Whole(Command),

@@ -25,7 +25,7 @@ refusal_text refusal.NoEntry = codes "entry"
 refusal_text (refusal.Submission fault) = submit_fault_text fault
 refusal_text (refusal.Withdrawal id fault) = withdraw_fault_text id fault
 
--- the bounds of an entry: A(N,D) = L where they are equal, else L <= A(N,D) <= U
+-- the bounds of an entry: A(N,D) = L if they are equal, else L <= A(N,D) <= U
 abbrev pub bounds_text : Entry → ℕ → ℕ → List ℕ
 bounds_text e lower upper =
     if lower == upper then entry_text e ++ codes " = " ++ decimal lower
