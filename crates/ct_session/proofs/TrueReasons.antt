@@ -15,6 +15,7 @@ use Rattle.ct_rules.specs.Derivation.{LineValue}
 use Rattle.ct_text.specs.EntryNumbers.{named_entry}
 use Rattle.ct_commands.specs.declared.command.Command.{Command}
 use Rattle.ct_commands.specs.declared.command.Command.TheVariants as command
+use Rattle.ct_commands.proofs.Naming.{CommandIsNamed}
 use Rattle.ct_piece.specs.Piece.{PieceValue}
 use Rattle.ct_piece.specs.Standing.{AreStanding}
 use Rattle.ct_derive.specs.Explanation.{last_claim}
@@ -91,15 +92,15 @@ true_explain pieces side (Some e) r stand h =
     }
 
 -- so each answer to `explain` is true
-pub true_reason : (pieces : List PieceValue) (c : Command) (r : Reply) → AreStanding pieces → IsReply pieces c r → IsTrueReason c (reply_text r)
-true_reason pieces (command.Submission id document) r stand h = tt
-true_reason pieces command.CutOff r stand h = tt
-true_reason pieces (command.Withdraw id) r stand h = tt
-true_reason pieces (command.WithdrawAll id) r stand h = tt
-true_reason pieces (command.Show numbers) r stand h = tt
-true_reason pieces (command.Table numbers) r stand h = tt
-true_reason pieces (command.Explain side numbers) r stand h = true_explain pieces side (named_entry numbers) r stand h
-true_reason pieces (command.List numbers) r stand h = tt
-true_reason pieces command.Ledger r stand h = tt
-true_reason pieces command.Dump r stand h = tt
-true_reason pieces command.Unknown r stand h = tt
+pub true_reason : (pieces : List PieceValue) (c : Command) (r : Reply) → CommandIsNamed c → AreStanding pieces → IsReply pieces c r → IsTrueReason c (reply_text r)
+true_reason pieces (command.Submission id document) r named stand h = tt
+true_reason pieces command.CutOff r named stand h = tt
+true_reason pieces (command.Withdraw id) r named stand h = tt
+true_reason pieces (command.WithdrawAll id) r named stand h = tt
+true_reason pieces (command.Show numbers) r named stand h = tt
+true_reason pieces (command.Table numbers) r named stand h = tt
+true_reason pieces (command.Explain side numbers) r named stand h = true_explain pieces side (named_entry numbers) r stand h
+true_reason pieces (command.List numbers) r named stand h = tt
+true_reason pieces command.Ledger r named stand h = tt
+true_reason pieces command.Dump r named stand h = tt
+true_reason pieces command.Unknown r named stand h = tt

@@ -1,5 +1,5 @@
 -- Each answer in the output of a run is true.
-use Rattle.std.proofs.Common.{◌≡◌, ℕ, ◌-◌, Bool, List, [], ◌∷◌, ◌++◌, length, map, slice_get, Option, Some, None, Result, Ok, Err, refl, sym, ap, subst, ◌∙◌, append-nil, append_assoc}
+use Rattle.std.proofs.Common.{◌≡◌, ℕ, ◌-◌, Bool, List, [], ◌∷◌, ◌++◌, length, map, slice_get, Option, Some, None, Result, Ok, Err, IfErr, IsTrue, refl, sym, ap, subst, ◌∙◌, append-nil, append_assoc}
 use Rattle.std.specs.Prelude.{codes}
 use Rattle.std.specs.Fmt.{decimal}
 use Rattle.std.specs.List.{AllZip, flat_map}
@@ -12,7 +12,11 @@ use Rattle.ct_text.specs.EntryNumbers.{named_entry}
 use Rattle.ct_commands.specs.declared.command.Command.{Command}
 use Rattle.ct_commands.specs.declared.command.Command.TheVariants as command
 use Rattle.ct_commands.proofs.Inputs.{asked_once}
-use Rattle.ct_commands.proofs.Naming.{AreNamed, commands_of-named}
+use Rattle.ct_commands.proofs.Naming.{CommandIsNamed, AreNamed, commands_of-named}
+use Rattle.ct_names.specs.Id.{is_id}
+use Rattle.ct_files.proofs.RefusalTexts.{NamesById, of_submit_fault}
+use Rattle.ct_files.proofs.UnbrokenTexts.{IsUnbroken, literal, joined, of_id, of_decimal}
+use Rattle.ct_piece.proofs.RefusedPieces.{NamesUser, submitted-named, withdrawn-named, withdrawn_all-named, of_withdraw_fault, of_size}
 use Rattle.ct_piece.specs.Piece.{PieceValue}
 use Rattle.ct_piece.specs.declared.fault.WithdrawFault.{WithdrawFault}
 use Rattle.ct_piece.specs.Dump.{piece_dump, dump_text}
@@ -34,7 +38,7 @@ use Rattle.ct_replies.specs.declared.reply.Refusal.TheVariants as refusal
 use Rattle.ct_session.specs.Reply.{AreBoundsOf, IsReply, IsShowReply, IsTableReply, IsExplainReply, IsListReply, submission_reply, withdrawal_reply, withdrawal_all_reply, pieces_after}
 use Rattle.ct_session.specs.Run.{AreReplies, IsRun}
 use Rattle.ct_session.proofs.Existence.{AreStanding-after}
-use Rattle.ct_session.specs.Truth.{IsTrueLine, AreTrueLines, AreWholeLines, IsTrueList, IsTrueShow, IsTrueTable, IsTrueListing, IsTrueAnswer, AreAnswers}
+use Rattle.ct_session.specs.Truth.{IsTrueLine, AreTrueLines, AreWholeLines, IsTrueList, IsTrueShow, IsTrueTable, IsTrueListing, IsOneLine, IsTrueAnswer, AreAnswers}
 
 -- bounds that are shown are true
 true_line : (pieces : List PieceValue) (e : Entry) (b : Bounds) → AreBoundsOf pieces e b → IsTrueLine e (bounds_line b)
@@ -79,30 +83,42 @@ true_listing pieces (Some e) r h = record {
   spelled = ap reply_text h.shown ∙ ap (λ (f : Entry). code_text f h.code.words) h.listed.entry;
 }
 
--- a refusal is a line
-refused : (why : Refusal) (r : Reply) → r ≡ Refused why → AreWholeLines (reply_text r)
-unfolding reply_text
-refused why r h = (codes "refused " ++ refusal_text why, ap reply_text h)
+-- a text without a line feed, and one after it, are one line
+one_line : (line : List ℕ) → IsUnbroken line → IsOneLine (ended line)
+one_line line h = (line, h.bytes, refl)
 
-lines_of_submission : (id : List ℕ) (made : Result PieceValue SubmitFault) (r : Reply) → r ≡ submission_reply id made → AreWholeLines (reply_text r)
+-- a refusal is one line, where its text has no line feed
+refused : (why : Refusal) (r : Reply) → r ≡ Refused why → IsUnbroken (refusal_text why) → IsOneLine (reply_text r)
 unfolding reply_text
-lines_of_submission id (Ok piece) r h = (codes "accepted " ++ id ++ size_text piece.size, ap reply_text h)
-lines_of_submission id (Err fault) r h = refused (refusal.Submission fault) r h
+refused why r h free = subst IsOneLine (sym (ap reply_text h)) (one_line (codes "refused " ++ refusal_text why) (joined (literal (codes "refused ") refl) free))
 
-lines_of_withdrawal : (id : List ℕ) (left : Result (List PieceValue) WithdrawFault) (r : Reply) → r ≡ withdrawal_reply id left → AreWholeLines (reply_text r)
+line_of_submission : (id : List ℕ) (made : Result PieceValue SubmitFault) (r : Reply) → IsTrue (is_id id) → IfErr made NamesById → r ≡ submission_reply id made → IsOneLine (reply_text r)
 unfolding reply_text
-lines_of_withdrawal id (Ok left) r h = (codes "withdrawn " ++ id, ap reply_text h)
-lines_of_withdrawal id (Err fault) r h = refused (refusal.Withdrawal id fault) r h
+line_of_submission id (Ok piece) r named by_id h =
+    subst IsOneLine (sym (ap reply_text h))
+    (one_line (codes "accepted " ++ id ++ size_text piece.size) (joined (joined (literal (codes "accepted ") refl) (of_id id named)) (of_size piece.size)))
+line_of_submission id (Err fault) r named by_id h = refused (refusal.Submission fault) r h (of_submit_fault fault by_id)
 
-lines_of_withdrawal_of_all : (id : List ℕ) (pieces : List PieceValue) (left : Result (List PieceValue) WithdrawFault) (r : Reply) → r ≡ withdrawal_all_reply id pieces left
-    → AreWholeLines (reply_text r)
+line_of_withdrawal : (id : List ℕ) (left : Result (List PieceValue) WithdrawFault) (r : Reply) → IsTrue (is_id id) → IfErr left NamesUser → r ≡ withdrawal_reply id left
+    → IsOneLine (reply_text r)
 unfolding reply_text
-lines_of_withdrawal_of_all id pieces (Ok left) r h = (codes "withdrawn " ++ id ++ codes " count " ++ decimal (length pieces - length left), ap reply_text h)
-lines_of_withdrawal_of_all id pieces (Err fault) r h = refused (refusal.Withdrawal id fault) r h
+line_of_withdrawal id (Ok left) r named by_id h =
+    subst IsOneLine (sym (ap reply_text h)) (one_line (codes "withdrawn " ++ id) (joined (literal (codes "withdrawn ") refl) (of_id id named)))
+line_of_withdrawal id (Err fault) r named by_id h = refused (refusal.Withdrawal id fault) r h (of_withdraw_fault id fault named by_id)
+
+line_of_withdrawal_of_all : (id : List ℕ) (pieces : List PieceValue) (left : Result (List PieceValue) WithdrawFault) (r : Reply) → IsTrue (is_id id) → IfErr left NamesUser
+    → r ≡ withdrawal_all_reply id pieces left → IsOneLine (reply_text r)
+unfolding reply_text
+line_of_withdrawal_of_all id pieces (Ok left) r named by_id h =
+    let count = length pieces - length left in
+    subst IsOneLine (sym (ap reply_text h))
+    (one_line (codes "withdrawn " ++ id ++ codes " count " ++ decimal count)
+    (joined (joined (joined (literal (codes "withdrawn ") refl) (of_id id named)) (literal (codes " count ") refl)) (of_decimal count)))
+line_of_withdrawal_of_all id pieces (Err fault) r named by_id h = refused (refusal.Withdrawal id fault) r h (of_withdraw_fault id fault named by_id)
 
 lines_of_explanation : (pieces : List PieceValue) (side : Side) (o : Option Entry) (r : Reply) → IsExplainReply pieces side o r → AreWholeLines (reply_text r)
 unfolding reply_text
-lines_of_explanation pieces side None r h = refused refusal.NoEntry r h
+lines_of_explanation pieces side None r h = (codes "refused entry", ap reply_text h)
 lines_of_explanation pieces side (Some e) r h =
     let d = h.derivation in
     let before = codes "derivation" ++ LINE_FEED ∷ [] ++ flat_map (λ p. block_text (λ p. p.id) (λ p. p.document) (slice_get pieces p)) d.pieces
@@ -137,22 +153,22 @@ lines_of_ledger pieces r h =
     lines_of_reply (ledger_text pieces) r h (more_lines (flat_map (λ p. ended (piece_text p)) pieces) (codes "pieces " ++ decimal (length pieces)))
 
 -- so each answer to a command is true
-pub true_answer : (pieces : List PieceValue) (c : Command) (r : Reply) → AreStanding pieces → IsReply pieces c r → IsTrueAnswer c (reply_text r)
+pub true_answer : (pieces : List PieceValue) (c : Command) (r : Reply) → CommandIsNamed c → AreStanding pieces → IsReply pieces c r → IsTrueAnswer c (reply_text r)
 unfolding dump_heading
-true_answer pieces (command.Submission None document) r stand h = refused refusal.NoCommand r h
-true_answer pieces (command.Submission (Some id) document) r stand h = lines_of_submission id (submitted pieces id document) r h
-true_answer pieces command.CutOff r stand h = refused refusal.CutOff r h
-true_answer pieces (command.Withdraw id) r stand h = lines_of_withdrawal id (withdrawn pieces id) r h
-true_answer pieces (command.WithdrawAll id) r stand h = lines_of_withdrawal_of_all id pieces (withdrawn_all pieces id) r h
-true_answer pieces (command.Show numbers) r stand h = true_show pieces (named_entry numbers) r h
-true_answer pieces (command.Table numbers) r stand h = true_table pieces (column numbers.d numbers.w) r h
-true_answer pieces (command.Explain side numbers) r stand h = lines_of_explanation pieces side (named_entry numbers) r h
-true_answer pieces (command.List numbers) r stand h = true_listing pieces (named_entry numbers) r h
-true_answer pieces command.Ledger r stand h = lines_of_ledger pieces r h
-true_answer pieces command.Dump r stand h = lines_of_reply (dump_text pieces) r h (lines_of_dump _ pieces (dump_heading pieces, refl))
-true_answer pieces command.Unknown r stand h = refused refusal.NoCommand r h
+true_answer pieces (command.Submission None document) r named stand h = refused refusal.NoCommand r h (literal (codes "command") refl)
+true_answer pieces (command.Submission (Some id) document) r named stand h = line_of_submission id (submitted pieces id document) r named (submitted-named pieces id document) h
+true_answer pieces command.CutOff r named stand h = refused refusal.CutOff r h (literal (codes "cut") refl)
+true_answer pieces (command.Withdraw id) r named stand h = line_of_withdrawal id (withdrawn pieces id) r named (withdrawn-named pieces id stand) h
+true_answer pieces (command.WithdrawAll id) r named stand h = line_of_withdrawal_of_all id pieces (withdrawn_all pieces id) r named (withdrawn_all-named pieces id) h
+true_answer pieces (command.Show numbers) r named stand h = true_show pieces (named_entry numbers) r h
+true_answer pieces (command.Table numbers) r named stand h = true_table pieces (column numbers.d numbers.w) r h
+true_answer pieces (command.Explain side numbers) r named stand h = lines_of_explanation pieces side (named_entry numbers) r h
+true_answer pieces (command.List numbers) r named stand h = true_listing pieces (named_entry numbers) r h
+true_answer pieces command.Ledger r named stand h = lines_of_ledger pieces r h
+true_answer pieces command.Dump r named stand h = lines_of_reply (dump_text pieces) r h (lines_of_dump _ pieces (dump_heading pieces, refl))
+true_answer pieces command.Unknown r named stand h = refused refusal.NoCommand r h (literal (codes "command") refl)
 
-answers_of : (IsRight : Command → List ℕ → Type 0) (right : (pieces : List PieceValue) (c : Command) (r : Reply) → AreStanding pieces → IsReply pieces c r → IsRight c (reply_text r))
+answers_of : (IsRight : Command → List ℕ → Type 0) (right : (pieces : List PieceValue) (c : Command) (r : Reply) → CommandIsNamed c → AreStanding pieces → IsReply pieces c r → IsRight c (reply_text r))
     (pieces : List PieceValue) (cs : List Command) (rs : List Reply) → AreNamed cs → AreStanding pieces → AreReplies pieces cs rs
     → (answers : List (List ℕ)) × AllZip IsRight cs answers × (flat_map reply_text rs ≡ flat_map (λ answer. answer) answers)
 answers_of IsRight right pieces [] [] named stand h = ([], tt, refl)
@@ -160,11 +176,11 @@ answers_of IsRight right pieces [] (r ∷ rs) named stand h = absurd h
 answers_of IsRight right pieces (c ∷ cs) [] named stand h = absurd h
 answers_of IsRight right pieces (c ∷ cs) (r ∷ rs) named stand h =
     let (answers, each, text) = answers_of IsRight right (pieces_after pieces c) cs rs named.1 (AreStanding-after pieces c named.0 stand) h.1 in
-    (reply_text r ∷ answers, (right pieces c r stand h.0, each), ap (λ (t : List ℕ). reply_text r ++ t) text)
+    (reply_text r ∷ answers, (right pieces c r named.0 stand h.0, each), ap (λ (t : List ℕ). reply_text r ++ t) text)
 
 -- what holds of each reply to a command over pieces that stand holds of the answers in the output of a run
 pub run_answers : (IsRight : Command → List ℕ → Type 0)
-    (right : (pieces : List PieceValue) (c : Command) (r : Reply) → AreStanding pieces → IsReply pieces c r → IsRight c (reply_text r))
+    (right : (pieces : List PieceValue) (c : Command) (r : Reply) → CommandIsNamed c → AreStanding pieces → IsReply pieces c r → IsRight c (reply_text r))
     (input output : List ℕ) (refused : Bool) → IsRun input output refused → AreAnswers IsRight input output
 run_answers IsRight right input output refused run =
     let named = subst AreNamed (asked_once (command.CutOff ∷ []) (lines_of input) run.commands run.asked) (commands_of-named (lines_of input)) in

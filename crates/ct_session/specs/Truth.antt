@@ -5,14 +5,14 @@ use Rattle.std.specs.List.Sorted.{IsStrictlyIncreasing}
 use Rattle.ct_words.specs.declared.entry.Entry.{Entry}
 use Rattle.ct_words.specs.Code.{IsCodeOf, IsTrueLower, IsTrueUpper}
 use Rattle.ct_words.specs.TableEntries.{column}
-use Rattle.ct_io.specs.Lines.{lines_of}
+use Rattle.ct_io.specs.Lines.{IsLine, lines_of}
 use Rattle.ct_text.specs.EntryNumbers.{named_entry}
 use Rattle.ct_commands.specs.Input.{AskFor}
 use Rattle.ct_commands.specs.declared.command.Command.{Command}
 use Rattle.ct_commands.specs.declared.command.Command.TheVariants as command
 use Rattle.ct_replies.specs.Text.{ended, bounds_text, code_text}
 
--- the line says A(n,d), or A(n,d,w), truly: some code of the entry has exactly as many words as the first number, and none has more than the second
+-- the line bounds A(n,d), or A(n,d,w), truly: some code of the entry has exactly `lower` words, and none has more than `upper`
 pub record IsTrueLine (e : Entry) (line : List ℕ) : Type 0 where
   pub lower : ℕ
   pub upper : ℕ
@@ -56,12 +56,19 @@ IsTrueListing (Some e) text = IsTrueList e text
 abbrev pub AreWholeLines : List ℕ → Type 0
 AreWholeLines text = (front : List ℕ) × (text ≡ ended front)
 
--- the text is a true answer to the command: to `show`, to `table` or to `list`. Of the answers to other commands only that they are whole lines is said here
+-- the text is one line: its only line feed is at its end
+abbrev pub IsOneLine : List ℕ → Type 0
+IsOneLine text = (line : List ℕ) × IsLine line × (text ≡ ended line)
+
+-- the text is a true answer to the command: to `show`, `table` or `list`. Of other answers it says only that they are one line, or for some whole lines
 abbrev pub IsTrueAnswer : Command → List ℕ → Type 0
 IsTrueAnswer (command.Show numbers) text = IsTrueShow (named_entry numbers) text
 IsTrueAnswer (command.Table numbers) text = IsTrueTable (column numbers.d numbers.w) text
 IsTrueAnswer (command.List numbers) text = IsTrueListing (named_entry numbers) text
-IsTrueAnswer other text = AreWholeLines text
+IsTrueAnswer (command.Explain side numbers) text = AreWholeLines text
+IsTrueAnswer command.Ledger text = AreWholeLines text
+IsTrueAnswer command.Dump text = AreWholeLines text
+IsTrueAnswer other text = IsOneLine text
 
 -- the output is answers to the commands of the input, one to each, in order; each is as the relation says
 pub record AreAnswers (IsRight : Command → List ℕ → Type 0) (input output : List ℕ) : Type 0 where
