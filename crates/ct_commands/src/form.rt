@@ -21,9 +21,9 @@ const MOST_WORDS: usize = 6;
 pub enum Form {
     /// Nothing: a line without words, or one that begins with `#`.
     Nothing,
-    /// A submission, whose document follows: its id, and how far the document goes. If the line is not `submit ID` or
-    /// `submit ID lines K`, with a number K of at least 1, there is no id, and the document goes to the line `end`. If only
-    /// ID is no id, there is no id either, and the document goes as far as the line says.
+    /// A submission, whose document follows: its id, and how far the document goes. If the line is neither `submit ID` nor
+    /// `submit ID lines K` with a number K of at least 1, there is no id, and the document goes to the line `end`. If it is
+    /// one of these, but the word ID is not an id, there is no id, and the document goes as far as the line says.
     Submit(Option<Id>, Extent),
     /// This command, which the line is by itself.
     Whole(Command),

@@ -36,7 +36,9 @@ made_over pieces id document read =
     else if nat_le MAX_PIECES (length pieces) then Err (fault.FullPieces (length pieces))
     else elim (piece_from (codes_of pieces) id document read) [
       | Err reason ↦ Err reason
-      | Ok piece ↦ if nat_le (stored_words pieces + stored_by piece) MAX_STORED then Ok piece else Err (fault.FullWords (stored_words pieces + stored_by piece))
+      | Ok piece ↦
+          if nat_le (stored_words pieces + stored_by piece) MAX_STORED then Ok piece
+          else Err (fault.FullWords (stored_words pieces + stored_by piece))
     ]
 
 -- what a submission makes over the pieces that stand: a piece, or the first reason why it makes none
