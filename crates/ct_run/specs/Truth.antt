@@ -9,7 +9,7 @@ use Rattle.ct_sample.specs.Truth.{AreTrueSums}
 use Rattle.ct_command_line.specs.declared.mode.Mode.{Mode}
 use Rattle.ct_command_line.specs.declared.mode.Mode.TheVariants.{Session, Verify, Find, Sample}
 
--- what a sink holds grew by an output that is so related to the bytes that the source had left, if these are told
+-- if the unread bytes of the source are known, what the sink holds grew by an output that is so related to them, as far as its bytes are known
 abbrev pub WritesAs : (List ℕ → List ℕ → Type 0) → Option (List ℕ) → Option (List ℕ) → Option (List ℕ) → Type 0
 WritesAs IsOutputOn left old new = IfSome left (λ input. (output : List ℕ) × IsOutputOn input output × Appends old new output)
 
