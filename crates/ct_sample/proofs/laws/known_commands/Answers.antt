@@ -17,6 +17,9 @@ step_below_ten step e below = ap (λ (t : List ℕ). Some (Submit (115 ∷ t) e)
 pub returns-clause-drawn : goal.returns-clause-drawn
 returns-clause-drawn c = refl
 
+pub returns-clause-sixty : goal.returns-clause-sixty
+returns-clause-sixty c = refl
+
 pub returns-clause-words : goal.returns-clause-words
 unfolding drawn_evidence
 returns-clause-words c = step_below_ten 1 (class_evidence 8 3 3) (omega arith)
