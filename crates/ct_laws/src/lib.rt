@@ -30,67 +30,104 @@ pub mod worked;
 pub mod worked_builds;
 pub mod worked_cites;
 
-pub use commands::{known_forms, lines_ask_for_one_list, submissions_are_read_as_written};
-pub use derivations::{
-    best_values_are_true, closed_bounds_are_best, derivations_grow_by_rules,
-    derived_claims_are_true, each_slot_has_one_best_value, known_claims, known_derivations,
-    lines_follow_from_earlier_lines, more_supports_keep_derivations,
-    standing_duals_reach_their_bounds,
-};
-pub use derived_lines::{
-    bounds_can_be_shown, explanations_are_true, explanations_exist, known_explanations,
-    known_faults, known_line_texts, lines_without_fault_follow,
-};
-pub use devices::{limits_and_told_bytes, shown_primals_are_small, what_a_broken_session_leaves};
-pub use documents::{
-    accepted_documents, answers_to_documents, bytes_without_table, documents_and_evidence,
-};
-pub use duals::{
-    answers_to_duals, duals_read_back, known_documents, known_local_documents, known_odd_documents,
-    local_duals_give_their_bounds, odd_duals_give_their_sizes, reasons_against_duals,
-};
+pub use commands::known_forms;
+pub use commands::lines_ask_for_one_list;
+pub use commands::submissions_are_read_as_written;
+pub use derivations::best_values_are_true;
+pub use derivations::closed_bounds_are_best;
+pub use derivations::derivations_grow_by_rules;
+pub use derivations::derived_claims_are_true;
+pub use derivations::each_slot_has_one_best_value;
+pub use derivations::known_claims;
+pub use derivations::known_derivations;
+pub use derivations::lines_follow_from_earlier_lines;
+pub use derivations::more_supports_keep_derivations;
+pub use derivations::standing_duals_reach_their_bounds;
+pub use derived_lines::bounds_can_be_shown;
+pub use derived_lines::explanations_are_true;
+pub use derived_lines::explanations_exist;
+pub use derived_lines::known_explanations;
+pub use derived_lines::known_faults;
+pub use derived_lines::known_line_texts;
+pub use derived_lines::lines_without_fault_follow;
+pub use devices::limits_and_told_bytes;
+pub use devices::shown_primals_are_small;
+pub use devices::what_a_broken_session_leaves;
+pub use documents::accepted_documents;
+pub use documents::answers_to_documents;
+pub use documents::bytes_without_table;
+pub use documents::documents_and_evidence;
+pub use duals::answers_to_duals;
+pub use duals::duals_read_back;
+pub use duals::known_documents;
+pub use duals::known_local_documents;
+pub use duals::known_odd_documents;
+pub use duals::local_duals_give_their_bounds;
+pub use duals::odd_duals_give_their_sizes;
+pub use duals::reasons_against_duals;
 pub use dump::dumps_lead_back;
-pub use explanations::{bounds_are_explained, explained_bounds_are_true, parts_are_named_pieces};
+pub use explanations::bounds_are_explained;
+pub use explanations::explained_bounds_are_true;
+pub use explanations::parts_are_named_pieces;
 pub use grounds::known_grounds;
-pub use laws::{
-    columns_by_length, documents_end_there, known_columns, known_runs, known_submissions,
-    known_texts, known_word_supports,
-};
-pub use ledger::{
-    duals_reach_their_bounds, local_evidence_bounds_codes, odd_evidence_excludes_sizes,
-    pieces_reach_their_bounds, sizes_are_those_of_codes,
-};
+pub use laws::columns_by_length;
+pub use laws::documents_end_there;
+pub use laws::known_columns;
+pub use laws::known_runs;
+pub use laws::known_submissions;
+pub use laws::known_texts;
+pub use laws::known_word_supports;
+pub use ledger::duals_reach_their_bounds;
+pub use ledger::local_evidence_bounds_codes;
+pub use ledger::odd_evidence_excludes_sizes;
+pub use ledger::pieces_reach_their_bounds;
+pub use ledger::sizes_are_those_of_codes;
 pub use numbers::numbers_are_read_as_printed;
-pub use pieces::{
-    ascending_numbers, cites_are_kept, duals_give_their_bounds, evidence_that_is_admitted,
-    pieces_give_supports, pieces_have_codes, pieces_taken_along, reasons_of_kinds,
-    refusals_in_order, stored_words_by_kind, submissions_that_are_accepted,
-    withdrawals_that_are_refused,
-};
-pub use proposals::{
-    found_duals_bound_codes, outputs_differ_in_documents_alone, proposals_are_accepted,
-};
+pub use pieces::ascending_numbers;
+pub use pieces::cites_are_kept;
+pub use pieces::duals_give_their_bounds;
+pub use pieces::evidence_that_is_admitted;
+pub use pieces::pieces_give_supports;
+pub use pieces::pieces_have_codes;
+pub use pieces::pieces_taken_along;
+pub use pieces::reasons_of_kinds;
+pub use pieces::refusals_in_order;
+pub use pieces::stored_words_by_kind;
+pub use pieces::submissions_that_are_accepted;
+pub use pieces::withdrawals_that_are_refused;
+pub use proposals::found_duals_bound_codes;
+pub use proposals::outputs_differ_in_documents_alone;
+pub use proposals::proposals_are_accepted;
 pub use proposed::proposals_are_taken;
-pub use reasons::{
-    reasons_against_builds, reasons_against_cosets, reasons_against_partitions,
-    reasons_against_products, reasons_against_words, wrong_ids_of_products,
-};
+pub use reasons::reasons_against_builds;
+pub use reasons::reasons_against_cosets;
+pub use reasons::reasons_against_partitions;
+pub use reasons::reasons_against_products;
+pub use reasons::reasons_against_words;
+pub use reasons::wrong_ids_of_products;
 pub use removals::removal_of_places;
-pub use replies::{
-    equal_bounds_are_exact, explained_bounds_are_shown, explained_bounds_are_verified,
-    shown_lower_bounds_are_listed,
-};
-pub use rules::{
-    better_bounds_say_more, claims_bound_slots, known_supports, premises_are_entries,
-    rules_are_monotone, rules_are_sound, rules_have_names, standing_duals_give_their_bounds,
-};
-pub use runs::{
-    every_input_has_a_run, pieces_give_true_bounds, replies_without_choice,
-    runs_differ_in_choices_only, shown_bounds_depend_on_standing_pieces,
-};
-pub use tables::{
-    known_lines_that_do_not_grow, known_reasons_after_a_removal, reasons_stay_by_lowered_rules,
-    tables_grow_by_better_lines, tables_hold_reasons,
-};
+pub use replies::equal_bounds_are_exact;
+pub use replies::explained_bounds_are_shown;
+pub use replies::explained_bounds_are_verified;
+pub use replies::shown_lower_bounds_are_listed;
+pub use rules::better_bounds_say_more;
+pub use rules::claims_bound_slots;
+pub use rules::known_supports;
+pub use rules::premises_are_entries;
+pub use rules::rules_are_monotone;
+pub use rules::rules_are_sound;
+pub use rules::rules_have_names;
+pub use rules::standing_duals_give_their_bounds;
+pub use runs::every_input_has_a_run;
+pub use runs::other_answers_are_one_line;
+pub use runs::pieces_give_true_bounds;
+pub use runs::replies_without_choice;
+pub use runs::runs_differ_in_choices_only;
+pub use runs::shown_bounds_depend_on_standing_pieces;
+pub use tables::known_lines_that_do_not_grow;
+pub use tables::known_reasons_after_a_removal;
+pub use tables::reasons_stay_by_lowered_rules;
+pub use tables::tables_grow_by_better_lines;
+pub use tables::tables_hold_reasons;
 pub use verdicts::documents_have_one_verdict;
 pub use verified::printed_derivations_are_verified;

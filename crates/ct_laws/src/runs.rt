@@ -16,6 +16,8 @@ ghost use Rattle.ct_commands.specs.declared.command.Command.{Command};
 ghost use Rattle.ct_session.specs.Reply.{IsShownBound, IsReply, leaves_choice};
 ghost use Rattle.ct_replies.specs.declared.reply.Reply.{Reply};
 ghost use Rattle.ct_session.specs.Run.{IsRun, DifferInChoices, pieces_of};
+ghost use Rattle.ct_session.specs.Truth.{IsTrueAnswer};
+ghost use Rattle.ct_io.specs.Lines.{lines_of};
 
 /// Every input has a run.
 pub fn every_input_has_a_run()
@@ -48,6 +50,17 @@ pub fn replies_without_choice()
     ensures ledger { leaves_choice command.Ledger ≡ false }
     ensures dump { leaves_choice command.Dump ≡ false }
     ensures unknown { leaves_choice command.Unknown ≡ false }
+{}
+
+/// Where the bounds that a session prints are said to be true, the answer to a submission, to a withdrawal, to a line that is no command and to a
+/// submission that the input cuts short is one line, counted as the lines of an input are: no line of a bound can be a part of it.
+pub fn other_answers_are_one_line()
+    ensures submission { (id : Option (List ℕ)) (document text : List ℕ) → IsTrueAnswer (command.Submission id document) text
+        → length (lines_of text) ≡ 1 }
+    ensures cut_off { (text : List ℕ) → IsTrueAnswer command.CutOff text → length (lines_of text) ≡ 1 }
+    ensures withdrawal { (id text : List ℕ) → IsTrueAnswer (command.Withdraw id) text → length (lines_of text) ≡ 1 }
+    ensures withdrawal_of_all { (id text : List ℕ) → IsTrueAnswer (command.WithdrawAll id) text → length (lines_of text) ≡ 1 }
+    ensures unknown { (text : List ℕ) → IsTrueAnswer command.Unknown text → length (lines_of text) ≡ 1 }
 {}
 
 /// The pieces that stand after the commands of an input are made by their documents, have different ids, and they and their words are
