@@ -29,7 +29,7 @@ pub enum Form {
     Whole(Command),
 }
 
-/// A submission of so many lines.
+/// A submission whose document has a given number of lines.
 fn lines(id: Option<Id>, count: Option<u64>) -> Form
     ensures { result ≡ lines_form id count }
 {

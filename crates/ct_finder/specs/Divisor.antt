@@ -1,4 +1,4 @@
--- Greatest common divisors.
+-- Greatest common divisors (Euclid, Elements, book VII).
 use Rattle.std.specs.Prelude.{ℕ, zero, suc, ◌%◌, ◌==◌, Bool, if◌then◌else◌, List, [], ◌∷◌, map, sum_by, ℤ, pos, unsigned_abs, int_div}
 use Rattle.std.specs.List.{list_all}
 

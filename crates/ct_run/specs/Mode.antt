@@ -37,7 +37,7 @@ input_for mode left = if reads mode then left else Some []
 abbrev pub status_of : Bool → Status
 status_of refused = if refused then status.Refused else status.Done
 
--- the statuses of an input that was read to its end and of an output that was written whole
+-- the status of a whole output: `Done`, or `Refused`
 abbrev pub IsRunStatus : Status → Type 0
 IsRunStatus result = (result ≡ status.Done) ⊎ (result ≡ status.Refused)
 

@@ -5,7 +5,7 @@ use Rattle.ct_words.specs.Entry.{is_entry}
 use Rattle.ct_text.specs.Number.{number_of}
 use Rattle.ct_text.specs.declared.entry_numbers.EntryNumbers.{EntryNumbers}
 
--- the numbers of three words, where each of them is one
+-- the three numbers, if each of them is there
 abbrev pub numbers_from : Option ℕ → Option ℕ → Option (Option ℕ) → Option EntryNumbers
 numbers_from (Some n) (Some d) (Some w) = Some (record { n = n; d = d; w = w })
 numbers_from n d w = None

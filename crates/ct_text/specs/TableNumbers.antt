@@ -5,7 +5,7 @@ use Rattle.ct_text.specs.Number.{number_of}
 use Rattle.ct_text.specs.EntryNumbers.{weight_from, named_entry}
 use Rattle.ct_text.specs.declared.table_numbers.TableNumbers.{TableNumbers}
 
--- the numbers of the words, where each of them is one
+-- the two numbers, if each of them is there
 abbrev pub table_numbers_from : Option ℕ → Option (Option ℕ) → Option TableNumbers
 table_numbers_from (Some d) (Some w) = Some (record { d = d; w = w })
 table_numbers_from d w = None

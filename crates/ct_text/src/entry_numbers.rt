@@ -6,14 +6,14 @@ ghost use Rattle.ct_text.specs.EntryNumbers.{entry_numbers_of, named_entry};
 use crate::number::parse_number;
 use ct_words::Entry;
 
-/// The numbers that a command names an entry by: `N D`, or `N D W` with a weight. They may be those of no entry of the table.
+/// The numbers that a command names an entry by: `N D`, or `N D W` with a weight. They need not name an entry of the table.
 #[derive(Clone, Copy)]
 pub struct EntryNumbers {
     /// The length.
     pub n: u64,
     /// The distance.
     pub d: u64,
-    /// The weight, where it is given.
+    /// The weight, if it is given.
     pub w: Option<u64>,
 }
 

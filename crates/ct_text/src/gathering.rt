@@ -11,7 +11,7 @@ use std::alloc::{AllocError, Global};
 pub enum Extent {
     /// To a line `end`, which is not part of it.
     ToEnd,
-    /// For so many lines, at least 1.
+    /// For the given number of lines, at least 1.
     Lines(u64),
 }
 

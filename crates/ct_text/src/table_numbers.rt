@@ -7,13 +7,13 @@ use crate::entry_numbers::EntryNumbers;
 use crate::number::parse_number;
 use ct_words::Entry;
 
-/// The numbers that a command names a part of the table by: `D`, or `D W` with a weight. They may be those of no entry of
-/// the table.
+/// The numbers that a command names a part of the table by: `D`, or `D W` with a weight. They need not name an
+/// entry of the table.
 #[derive(Clone, Copy)]
 pub struct TableNumbers {
     /// The distance.
     pub d: u64,
-    /// The weight, where it is given.
+    /// The weight, if it is given.
     pub w: Option<u64>,
 }
 

@@ -14,7 +14,7 @@ IsTrueOn Lower e v = IsTrueLower e v
 IsTrueOn Upper e v = IsTrueUpper e v
 
 -- a claim that is true: it speaks of an entry of the table, its value is from 1 to MAX_BOUND, and of a lower bound some code of the entry has
--- just so many words, of an upper bound no code of it has more
+-- exactly this many words, of an upper bound no code of it has more
 pub record IsTrueClaim (c : Claim) : Type 0 where
   pub entry : IsEntry c.entry
   pub range : (1 ≤ c.value) × (c.value ≤ MAX_BOUND)

@@ -6,8 +6,8 @@ use Rattle.ct_words.specs.declared.code.TheConstants.{MAX_CODE_DISTANCE}
 use Rattle.ct_words.specs.Word.{weight, distance}
 use Rattle.ct_words.specs.declared.entry.Entry.{Entry}
 
--- the list is a code of length n and distance d, and of weight w where one is given: words of length n, no two places hold equal words,
--- each two have distance at least d, and each word has the weight
+-- the list is a code of length n and distance d, and of weight w if one is given: words of length n, no two of them equal, any two at distance
+-- at least d, and each of the weight
 pub record IsCode (n d : ℕ) (w : Option ℕ) (words : List ℕ) : Type 0 where
   pub lengths : All (λ x. x < 2 ^ n) words
   pub different : AllPairs (λ x y. x ≢ y) words
@@ -18,11 +18,11 @@ pub record IsCode (n d : ℕ) (w : Option ℕ) (words : List ℕ) : Type 0 where
 abbrev pub IsCodeOf : Entry → List ℕ → Type 0
 IsCodeOf e words = IsCode e.n e.d e.w words
 
--- a lower bound v of the entry is true where some code of the entry has exactly v words
+-- a lower bound v of the entry is true if some code of the entry has exactly v words
 abbrev pub IsTrueLower : Entry → ℕ → Type 0
 IsTrueLower e v = (words : List ℕ) × IsCodeOf e words × (length words ≡ v)
 
--- an upper bound v of the entry is true where every code of the entry has at most v words
+-- an upper bound v of the entry is true if every code of the entry has at most v words
 abbrev pub IsTrueUpper : Entry → ℕ → Type 0
 IsTrueUpper e v = (words : List ℕ) → IsCodeOf e words → length words ≤ v
 

@@ -3,7 +3,7 @@ use Rattle.std.specs.Prelude.{ℕ, ◌%◌, Bool, true, false, nat_le, ◌==◌,
 use Rattle.ct_words.specs.declared.limits.TheConstants.{MAX_N}
 use Rattle.ct_words.specs.declared.entry.Entry.{Entry}
 
--- a weight is in the table where it is at most n and d is even: two words of one weight have even distance
+-- a weight is in the table if it is at most n and d is even: two words of one weight have even distance
 abbrev pub weight_fits : Entry → Option ℕ → Bool
 weight_fits e None = true
 weight_fits e (Some w) = e.d % 2 == 0 && nat_le w e.n

@@ -5,8 +5,8 @@ use Rattle.ct_words.specs.declared.limits.TheConstants.{MAX_N}
 use Rattle.ct_words.specs.declared.entry.Entry.{Entry}
 use Rattle.ct_words.specs.Entry.{is_entry}
 
--- a column of the table: its entries A(n,d), or A(n,d,w) where a weight is given, in the order of their lengths, from 1, or the weight where it is
--- greater, to MAX_N; none where no entry has the distance and the weight
+-- a column of the table: its entries A(n,d), or A(n,d,w) if a weight is given, in the order of their lengths, from 1, or the weight if that is
+-- greater, to MAX_N; none if no entry has the distance and the weight
 unfoldable pub column : ℕ → Option ℕ → List Entry
 column d w = filter is_entry (map (λ n. record { n = n; d = d; w = w }) (range_with_len 1 MAX_N))
 

@@ -5,7 +5,7 @@ use crate::entry::Entry;
 /// The side of a bound.
 #[derive(Clone, Copy, PartialEq, Eq)]
 pub enum Side {
-    /// A lower bound: some code has so many words.
+    /// A lower bound: some code has this many words.
     Lower,
     /// An upper bound: no code has more words.
     Upper,

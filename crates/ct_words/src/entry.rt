@@ -10,9 +10,9 @@ use crate::limits::MAX_N;
 pub struct Entry {
     /// The length of the words.
     pub n: u32,
-    /// At so many places each two words differ at least.
+    /// Any two words differ in at least this many places.
     pub d: u32,
-    /// The weight of each word, where it is given.
+    /// The weight of each word, if one is given.
     pub w: Option<u32>,
 }
 
