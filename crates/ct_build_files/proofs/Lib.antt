@@ -1,14 +1,13 @@
-pub mod BuildEntryAnswers
-pub mod BuildFieldLemmas
+pub mod BuildFields
+pub mod BuildForms
+pub mod BuildAnswers
+pub mod SoundBuilds
+pub mod WrittenBuild
+pub mod BuildRooms
 mod PushedNumbers
 mod ReadOperation
 mod ReadPlaces
 mod ReadSteps
-pub mod BuildAnswers
-pub mod BuildFaultAnswers
-pub mod AlikeBuilds
-pub mod WrittenBuild
 mod PutFields
-pub mod BuildRooms
 pub mod BuildKind
 pub mod BuildChecks

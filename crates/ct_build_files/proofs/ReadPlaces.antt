@@ -9,11 +9,12 @@ use Rattle.toml.specs.declared.value.Value.TheVariants.{Array}
 use Rattle.toml.proofs.Views.{view-Array}
 use Rattle.ct_words.specs.declared.limits.TheConstants.{MAX_N}
 use Rattle.ct_fields.specs.Field.{field_text}
-use Rattle.ct_fields.specs.Fields.{field, number_in}
+use Rattle.ct_fields.specs.Fields.{number_in}
 use Rattle.ct_fields.specs.Forms.{all_of}
+use Rattle.ct_fields.specs.Schema.{needed}
 use Rattle.ct_fields.specs.declared.field.FieldName.TheVariants.{Places}
 use Rattle.ct_fields.specs.declared.fault.DocumentFault.TheVariants.{Field}
-use Rattle.ct_build_files.specs.BuildFields.{are_left_out, places_in}
+use Rattle.ct_build_files.specs.BuildFields.{are_left_out, places_in, places_form}
 
 -- those among the numbers that are read, if any are
 abbrev chosen : ℕ → Option (List ℕ) → Option (List ℕ)
@@ -22,7 +23,7 @@ chosen n found = option_and_then (λ places. if are_left_out n places then Some 
 -- a list stands there
 list_there : (n : ℕ) (document : Data) (text : List ℕ) (v : Value) (values : Vec Value Global) (items : List Value) → Some (view v) ≡ get text document
     → text ≡ field_text Places → v ≡ Array values → items ≡ values.items
-    → field (places_in n) Places document ≡ ok_or (chosen n (all_of (number_in 0 MAX_N) (items_view items))) (Field Places)
+    → needed (places_form n) document ≡ ok_or (chosen n (all_of (number_in 0 MAX_N) (items_view items))) (Field Places)
 list_there n document text v values items stands named is same =
     ap (λ (o : Option Data). ok_or (option_and_then (places_in n) o) (Field Places))
     (ap (λ (t : List ℕ). get t document) (sym named) ∙ sym stands ∙ ap (λ (w : Value). Some (view w)) is ∙ ap Some (view-Array values))
@@ -30,7 +31,7 @@ list_there n document text v values items stands named is same =
 
 pub places_read : (n : ℕ) (document : Data) (text : List ℕ) (v : Value) (values : Vec Value Global) (items : List Value) (places : List ℕ)
     → Some (view v) ≡ get text document → text ≡ field_text Places → v ≡ Array values → items ≡ values.items
-    → Some places ≡ all_of (number_in 0 MAX_N) (items_view items) → are_left_out n places ≡ true → field (places_in n) Places document ≡ Ok places
+    → Some places ≡ all_of (number_in 0 MAX_N) (items_view items) → are_left_out n places ≡ true → needed (places_form n) document ≡ Ok places
 places_read n document text v values items places stands named is same found passes =
     list_there n document text v values items stands named is same
     ∙ ap (λ (o : Option (List ℕ)). ok_or (chosen n o) (Field Places)) (sym found)
@@ -39,7 +40,7 @@ places_read n document text v values items places stands named is same found pas
 pub places_wrong : (n : ℕ) (document : Data) (text : List ℕ) (v : Value) (values : Vec Value Global) (items : List Value) (places : List ℕ)
     → Some (view v) ≡ get text document → text ≡ field_text Places → v ≡ Array values → items ≡ values.items
     → Some places ≡ all_of (number_in 0 MAX_N) (items_view items) → are_left_out n places ≡ false
-    → field (places_in n) Places document ≡ Err (Field Places)
+    → needed (places_form n) document ≡ Err (Field Places)
 places_wrong n document text v values items places stands named is same found fails =
     list_there n document text v values items stands named is same
     ∙ ap (λ (o : Option (List ℕ)). ok_or (chosen n o) (Field Places)) (sym found)
@@ -47,6 +48,6 @@ places_wrong n document text v values items places stands named is same found fa
 
 pub places_unread : (n : ℕ) (document : Data) (text : List ℕ) (v : Value) (values : Vec Value Global) (items : List Value)
     → Some (view v) ≡ get text document → text ≡ field_text Places → v ≡ Array values → items ≡ values.items
-    → None ≡ all_of (number_in 0 MAX_N) (items_view items) → field (places_in n) Places document ≡ Err (Field Places)
+    → None ≡ all_of (number_in 0 MAX_N) (items_view items) → needed (places_form n) document ≡ Err (Field Places)
 places_unread n document text v values items stands named is same none =
     list_there n document text v values items stands named is same ∙ ap (λ (o : Option (List ℕ)). ok_or (chosen n o) (Field Places)) (sym none)

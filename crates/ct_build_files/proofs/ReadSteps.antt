@@ -1,106 +1,72 @@
--- The steps of reading a build, one after another.
-use Rattle.std.proofs.Common.{◌≡◌, ℕ, true, false, List, length, Option, Some, None, Result, Ok, Err, ok_or, option_map, sym, ap, ◌∙◌}
-use Rattle.toml.specs.Data.{Data, as_str}
+-- The own fields of a build, one after another.
+use Rattle.std.proofs.Common.{◌≡◌, ℕ, List, [], ◌∷◌, length, Option, Some, Result, Ok, Err, option_map, sym, ap, subst, ◌∙◌}
+use Rattle.toml.specs.Data.{Data}
 use Rattle.ct_words.specs.declared.entry.Entry.{Entry}
-use Rattle.ct_build.specs.declared.building.TheConstants.{MAX_BUILT}
+use Rattle.ct_words.specs.Text.{word_of}
 use Rattle.ct_build.specs.declared.step.Step.{Step}
 use Rattle.ct_build.specs.declared.step.Step.TheVariants as step
 use Rattle.ct_fields.specs.Reads.{Reads}
-use Rattle.ct_fields.specs.Steps.{◌>>=◌, check}
-use Rattle.ct_fields.specs.Fields.{field, number_field}
-use Rattle.ct_fields.specs.LastFields.{last_fields}
+use Rattle.ct_fields.specs.Schema.{needed, read_by}
 use Rattle.ct_fields.specs.declared.field.FieldName.TheVariants as name
 use Rattle.ct_fields.specs.declared.fault.DocumentFault.{DocumentFault}
-use Rattle.ct_fields.specs.declared.fault.DocumentFault.TheVariants.{Field, Digits}
-use Rattle.ct_fields.proofs.StepLemmas.{bind-at, bind-at_err}
+use Rattle.ct_fields.proofs.StepLemmas.{bind-at}
 use Rattle.ct_kind.specs.declared.evidence.Evidence.{Evidence}
-use Rattle.ct_kind.specs.declared.evidence.Evidence.TheVariants.{Build}
-use Rattle.ct_build_files.specs.BuildEntry.{build_entry_of}
-use Rattle.ct_build_files.specs.Operation.{makes_length, takes_weight, build_fields}
-use Rattle.ct_build_files.specs.BuildFields.{operation_field, places_in, digits_of, step_fields, id_field, other_field}
-use Rattle.ct_build_files.specs.Build.{build_with, build_by, build_evidence_of}
+use Rattle.ct_build_files.specs.Operation.{step_names}
+use Rattle.ct_build_files.specs.BuildFields.{digits_of, places_form, text_form}
+use Rattle.ct_build_files.specs.BuildSchema.{step_schema, parts_schema}
 use Rattle.ct_build_files.specs.declared.operation.Operation.{Operation}
-use Rattle.ct_build_files.specs.declared.operation.Operation.TheVariants.{Puncture, Shorten, Trim}
+use Rattle.ct_build_files.specs.declared.operation.Operation.TheVariants.{Puncture, Shorten, Translate, Select}
 
 -- the answer is what is read
 reads_same : {A : Type 0} (r read : Result A DocumentFault) → r ≡ read → Reads (λ x. x) r read
 reads_same (Ok x) read is = sym is
 reads_same (Err fault) read is = λ other. sym is
 
--- the evidence, once the entry and the operation are read
-pub evidence_from : (document : Data) (e : Entry) (o : Operation) → Ok e ≡ build_entry_of document → Ok o ≡ operation_field document
-    → build_evidence_of document ≡ build_by e o document
-unfolding build_evidence_of
-evidence_from document e o entry operation =
-    bind-at (build_entry_of document) _ e (sym entry) ∙ bind-at (operation_field document) _ o (sym operation)
+-- the answer is what is read of the parts of a build by the operation, with the step that is found
+abbrev IsWith : Entry → Operation → Data → Result Evidence DocumentFault → Option Step → Type 0
+IsWith e o document r found = r ≡ read_by (step_names o) (parts_schema e o found) document
 
--- a build by the operation, once its length, its weight and its own fields are right
-pub by_found : (e : Entry) (o : Operation) (found : Option Step) (document : Data) (r : Result Evidence DocumentFault) → makes_length o e.n ≡ true
-    → takes_weight o e.w ≡ true → step_fields o e.n document ≡ Ok found → r ≡ build_with e o found document
-    → Reads (λ evidence. evidence) r (build_by e o document)
-by_found e o found document r long weighs read is =
-    reads_same r (build_by e o document)
-    (is
+-- and so what is read of its own fields and of its parts
+abbrev ReadsStep : Entry → Data → Result Evidence DocumentFault → Operation → Type 0
+ReadsStep e document r o =
+    Reads (λ (evidence : Evidence). evidence) r (read_by (name.N ∷ name.D ∷ name.W ∷ name.Op ∷ []) (step_schema o e.n (parts_schema e o)) document)
+
+pub punctured : (e : Entry) (o : Operation) (document : Data) (r : Result Evidence DocumentFault) (places listed : List ℕ) → o ≡ Puncture
+    → needed (places_form e.n) document ≡ Ok places → listed ≡ places → IsWith e o document r (Some (step.Puncture listed)) → ReadsStep e document r o
+punctured e o document r places listed is read same with =
+    subst (ReadsStep e document r) (sym is)
+    (reads_same r _
+    (subst (λ (p : Operation). IsWith e p document r (Some (step.Puncture listed))) is with
+    ∙ ap (λ (ps : List ℕ). read_by (step_names Puncture) (parts_schema e Puncture (Some (step.Puncture ps))) document) same
+    ∙ sym (bind-at (needed (places_form e.n) document) _ places read)))
+
+pub shortened : (e : Entry) (o : Operation) (document : Data) (r : Result Evidence DocumentFault) (places text : List ℕ) (found : Option Step) → o ≡ Shorten
+    → needed (places_form e.n) document ≡ Ok places → Ok text ≡ needed (text_form name.Digits) document
+    → found ≡ option_map (step.Shorten places) (digits_of (length places) text) → IsWith e o document r found → ReadsStep e document r o
+shortened e o document r places text found is read text-is same with =
+    subst (ReadsStep e document r) (sym is)
+    (reads_same r _
+    (subst (λ (p : Operation). IsWith e p document r found) is with
+    ∙ ap (λ (f : Option Step). read_by (step_names Shorten) (parts_schema e Shorten f) document) same
     ∙ sym
-    (bind-at (check (makes_length o e.n) (Field name.N)) _ tt (ap (λ b. check b (Field name.N)) long)
-    ∙ bind-at (check (takes_weight o e.w) (Field name.W)) _ tt (ap (λ b. check b (Field name.W)) weighs)
-    ∙ bind-at (step_fields o e.n document) (λ s. build_with e o s document) found read))
+    (bind-at (needed (places_form e.n) document) _ places read ∙ bind-at (needed (text_form name.Digits) document) _ text (sym text-is))))
 
--- a weight that is wrong, and a length
-pub by_weight : (e : Entry) (o : Operation) (document : Data) → makes_length o e.n ≡ true → takes_weight o e.w ≡ false
-    → build_by e o document ≡ Err (Field name.W)
-by_weight e o document long out =
-    bind-at (check (makes_length o e.n) (Field name.N)) _ tt (ap (λ b. check b (Field name.N)) long)
-    ∙ bind-at_err (check (takes_weight o e.w) (Field name.W)) _ (Field name.W) (ap (λ b. check b (Field name.W)) out)
+pub translated : (e : Entry) (o : Operation) (document : Data) (r : Result Evidence DocumentFault) (text : List ℕ) (found : Option Step) → o ≡ Translate
+    → Ok text ≡ needed (text_form name.By) document → found ≡ option_map step.Translate (word_of e.n text) → IsWith e o document r found
+    → ReadsStep e document r o
+translated e o document r text found is text-is same with =
+    subst (ReadsStep e document r) (sym is)
+    (reads_same r _
+    (subst (λ (p : Operation). IsWith e p document r found) is with
+    ∙ ap (λ (f : Option Step). read_by (step_names Translate) (parts_schema e Translate f) document) same
+    ∙ sym (bind-at (needed (text_form name.By) document) _ text (sym text-is))))
 
-pub by_length : (e : Entry) (o : Operation) (document : Data) → makes_length o e.n ≡ false → build_by e o document ≡ Err (Field name.N)
-by_length e o document out = bind-at_err (check (makes_length o e.n) (Field name.N)) _ (Field name.N) (ap (λ b. check b (Field name.N)) out)
-
--- what is made of the parts and of the step that is found
-pub with_parts : (e : Entry) (o : Operation) (found : Option Step) (document : Data) (part : List ℕ) (other : Option (List ℕ))
-    → (id_field name.Part document ≡ Ok part) × (other_field o document ≡ Ok other) × (last_fields (build_fields o) document ≡ Ok tt)
-    → build_with e o found document ≡ (ok_or found (Digits 0) >>= (λ s. Ok (Build e s part other)))
-with_parts e o found document part other (part-is, other-is, last-is) =
-    bind-at (id_field name.Part document) _ part part-is
-    ∙ bind-at (other_field o document) _ other other-is
-    ∙ bind-at (last_fields (build_fields o) document) _ tt last-is
-
-pub with_step : (e : Entry) (o : Operation) (found : Option Step) (s : Step) (document : Data) (part : List ℕ) (other : Option (List ℕ))
-    → (id_field name.Part document ≡ Ok part) × (other_field o document ≡ Ok other) × (last_fields (build_fields o) document ≡ Ok tt)
-    → found ≡ Some s → Ok (Build e s part other) ≡ build_with e o found document
-with_step e o found s document part other read is =
-    sym
-    (with_parts e o found document part other read
-    ∙ bind-at (ok_or found (Digits 0)) (λ t. Ok (Build e t part other)) s (ap (λ f. ok_or f (Digits 0)) is))
-
-pub with_none : (e : Entry) (o : Operation) (found : Option Step) (document : Data) (part : List ℕ) (other : Option (List ℕ))
-    → (id_field name.Part document ≡ Ok part) × (other_field o document ≡ Ok other) × (last_fields (build_fields o) document ≡ Ok tt)
-    → found ≡ None → Err (Digits 0) ≡ build_with e o found document
-with_none e o found document part other read is =
-    sym
-    (with_parts e o found document part other read
-    ∙ bind-at_err (ok_or found (Digits 0)) (λ t. Ok (Build e t part other)) (Digits 0) (ap (λ f. ok_or f (Digits 0)) is))
-
--- the own fields of an operation that has some
-pub trimmed : (o : Operation) (n : ℕ) (document : Data) (size : ℕ) → o ≡ Trim → Ok size ≡ number_field name.Size 1 MAX_BUILT document
-    → step_fields o n document ≡ Ok (Some (step.Trim size))
-unfolding step_fields
-trimmed o n document size is read =
-    ap (λ (p : Operation). step_fields p n document) is ∙ bind-at (number_field name.Size 1 MAX_BUILT document) _ size (sym read)
-
-pub punctured : (o : Operation) (n : ℕ) (document : Data) (places listed : List ℕ) → o ≡ Puncture → field (places_in n) name.Places document ≡ Ok places
-    → listed ≡ places → step_fields o n document ≡ Ok (Some (step.Puncture listed))
-unfolding step_fields
-punctured o n document places listed is read same =
-    ap (λ (p : Operation). step_fields p n document) is
-    ∙ bind-at (field (places_in n) name.Places document) _ places read
-    ∙ ap (λ (ps : List ℕ). Ok (Some (step.Puncture ps))) (sym same)
-
-pub shortened : (n : ℕ) (document : Data) (places text : List ℕ) (found : Option (List ℕ)) → field (places_in n) name.Places document ≡ Ok places
-    → Ok text ≡ field as_str name.Digits document → found ≡ digits_of (length places) text
-    → step_fields Shorten n document ≡ Ok (option_map (step.Shorten places) found)
-unfolding step_fields
-shortened n document places text found read text-is found-is =
-    bind-at (field (places_in n) name.Places document) _ places read
-    ∙ bind-at (field as_str name.Digits document) _ text (sym text-is)
-    ∙ ap (λ (ds : Option (List ℕ)). Ok (option_map (step.Shorten places) ds)) (sym found-is)
+pub selected : (e : Entry) (o : Operation) (document : Data) (r : Result Evidence DocumentFault) (text : List ℕ) (found : Option Step) → o ≡ Select
+    → Ok text ≡ needed (text_form name.By) document → found ≡ option_map step.Select (word_of e.n text) → IsWith e o document r found
+    → ReadsStep e document r o
+selected e o document r text found is text-is same with =
+    subst (ReadsStep e document r) (sym is)
+    (reads_same r _
+    (subst (λ (p : Operation). IsWith e p document r found) is with
+    ∙ ap (λ (f : Option Step). read_by (step_names Select) (parts_schema e Select f) document) same
+    ∙ sym (bind-at (needed (text_form name.By) document) _ text (sym text-is))))

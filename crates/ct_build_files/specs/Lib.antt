@@ -1,9 +1,7 @@
-pub mod BuildEntry
 pub mod Operation
 pub mod BuildFields
-pub mod Build
-pub mod BuildDocument
-pub mod WrittenBuild
+pub mod BuildSchema
 pub mod BuildAnswer
+pub mod WrittenBuild
 pub mod BuildKind
 pub mod BuildFaultText

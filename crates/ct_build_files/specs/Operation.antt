@@ -1,5 +1,5 @@
 -- The operations of a document of kind build: the steps by which a code is built.
-use Rattle.std.specs.Prelude.{ℕ, ◌%◌, Bool, true, false, nat_le, ◌==◌, if◌then◌else◌, List, [], ◌∷◌, Option, Some, None, is_some, is_none, codes}
+use Rattle.std.specs.Prelude.{ℕ, ◌%◌, Bool, true, false, nat_le, ◌==◌, if◌then◌else◌, List, [], ◌∷◌, ◌++◌, Option, Some, None, is_some, is_none, codes}
 use Rattle.std.specs.Str.{bytes_eq}
 use Rattle.ct_build.specs.declared.step.Step.{Step}
 use Rattle.ct_build.specs.declared.step.Step.TheVariants as step
@@ -77,17 +77,20 @@ takes_other operation = false
 abbrev pub needs_other : Step → Bool
 needs_other step = takes_other (operation_of step)
 
--- the fields of the operation beside n, d, w, op and part
-abbrev pub further_fields : Operation → List FieldName
-further_fields Puncture = name.Places ∷ []
-further_fields Shorten = name.Places ∷ name.Digits ∷ []
-further_fields Translate = name.By ∷ []
-further_fields Select = name.By ∷ []
-further_fields Uuv = name.Other ∷ []
-further_fields Juxtapose = name.Other ∷ []
-further_fields Trim = name.Size ∷ []
-further_fields operation = []
+-- the fields of the operation beside n, d, w, op, part and other
+abbrev pub own_fields : Operation → List FieldName
+own_fields Puncture = name.Places ∷ []
+own_fields Shorten = name.Places ∷ name.Digits ∷ []
+own_fields Translate = name.By ∷ []
+own_fields Select = name.By ∷ []
+own_fields Trim = name.Size ∷ []
+own_fields operation = []
 
--- the fields of a build by the operation
-abbrev pub build_fields : Operation → List FieldName
-build_fields operation = name.N ∷ name.D ∷ name.W ∷ name.Op ∷ name.Part ∷ further_fields operation
+-- the fields of a build by the operation, up to its own
+abbrev pub step_names : Operation → List FieldName
+step_names operation = name.N ∷ name.D ∷ name.W ∷ name.Op ∷ own_fields operation
+
+-- all fields of a build by the operation
+abbrev pub build_names : Operation → List FieldName
+build_names operation =
+    if takes_other operation then (step_names operation ++ name.Part ∷ []) ++ name.Other ∷ [] else step_names operation ++ name.Part ∷ []

@@ -1,43 +1,45 @@
--- The table that is written for a build.
-use Rattle.std.specs.Prelude.{ℕ, pos, ◌+◌, List, map, Option, Some, None, codes}
-use Rattle.toml.specs.Data.{Data, string, integer, array, Members, no_members, member}
-use Rattle.toml.specs.View.{items_of}
+-- What is written for a build.
+use Rattle.std.specs.Prelude.{ℕ, pos, ◌+◌, List, [], ◌∷◌, map, fold, Option, Some, None}
+use Rattle.toml.specs.Data.{Data, string, integer, Members}
 use Rattle.ct_words.specs.Text.{word_text}
 use Rattle.ct_words.specs.declared.entry.Entry.{Entry}
 use Rattle.ct_build.specs.declared.step.Step.{Step}
 use Rattle.ct_build.specs.declared.step.Step.TheVariants.{Puncture, Shorten, Translate, Select, Trim}
-use Rattle.ct_build_files.specs.Operation.{operation_text, operation_of}
-use Rattle.ct_fields.specs.Written.{put, put_weight}
+use Rattle.ct_fields.specs.Forms.{list_data}
+use Rattle.ct_fields.specs.WrittenSchema.{put_some, with_entry}
+use Rattle.ct_fields.specs.declared.field.FieldName.{FieldName}
 use Rattle.ct_fields.specs.declared.field.FieldName.TheVariants as name
+use Rattle.ct_build_files.specs.Operation.{operation_text, operation_of}
 
 -- a list of numbers
 abbrev pub number_list : List ℕ → Data
-number_list numbers = array (items_of (map (λ k. integer (pos k)) numbers))
+number_list = list_data (λ k. integer (pos k))
 
--- the text of digits
+-- the text of digits (48 is `0`)
 abbrev pub digits_text : List ℕ → List ℕ
 digits_text digits = map (λ a. 48 + a) digits
 
--- the fields of a step that makes words of length n
-abbrev pub put_step : Step → ℕ → Members → Members
-put_step (Puncture places) n ms = put name.Places (number_list places) ms
-put_step (Shorten places digits) n ms = put name.Digits (string (digits_text digits)) (put name.Places (number_list places) ms)
-put_step (Translate by) n ms = put name.By (string (word_text n by)) ms
-put_step (Select by) n ms = put name.By (string (word_text n by)) ms
-put_step (Trim size) n ms = put name.Size (integer (pos size)) ms
-put_step step n ms = ms
+-- the own fields of a step that makes words of length n
+abbrev pub step_fields : Step → ℕ → List (FieldName × Option Data)
+step_fields (Puncture places) n = (name.Places, Some (number_list places)) ∷ []
+step_fields (Shorten places digits) n =
+    (name.Places, Some (number_list places)) ∷ (name.Digits, Some (string (digits_text digits))) ∷ []
+step_fields (Translate by) n = (name.By, Some (string (word_text n by))) ∷ []
+step_fields (Select by) n = (name.By, Some (string (word_text n by))) ∷ []
+step_fields (Trim size) n = (name.Size, Some (integer (pos size))) ∷ []
+step_fields step n = []
 
--- the id of the other piece, where there is one
-abbrev pub put_other : Option (List ℕ) → Members → Members
-put_other None ms = ms
-put_other (Some id) ms = put name.Other (string id) ms
+-- the other piece, if there is one, and further fields
+abbrev pub with_other : Option (List ℕ) → List (FieldName × Option Data) → List (FieldName × Option Data)
+with_other None fields = fields
+with_other (Some id) fields = (name.Other, Some (string id)) ∷ fields
 
--- the fields of every build
-abbrev pub base_table : Entry → Step → List ℕ → Members
-base_table e step part =
-    put name.Part (string part) (put name.Op (string (operation_text (operation_of step)))
-    (put name.D (integer (pos e.d)) (put name.N (integer (pos e.n)) (member (codes "kind") (string (codes "build")) no_members))))
+-- the fields of a build
+abbrev pub build_fields : Entry → Step → List ℕ → Option (List ℕ) → List (FieldName × Option Data)
+build_fields e step part other =
+    with_entry e
+    ((name.Op, Some (string (operation_text (operation_of step)))) ∷ (name.Part, Some (string part)) ∷ with_other other (step_fields step e.n))
 
--- the table of a build
-abbrev pub build_table : Entry → Step → List ℕ → Option (List ℕ) → Members
-build_table e step part other = put_weight e.w (put_other other (put_step step e.n (base_table e step part)))
+-- the members with the values at the fields
+abbrev pub put_fields : List (FieldName × Option Data) → Members → Members
+put_fields fields ms = fold (λ ms f. put_some f.0 f.1 ms) ms fields

@@ -6,7 +6,6 @@ mod build_fault_text;
 mod build_fields;
 pub mod build_kind;
 mod codes;
-mod entry;
 mod operation;
 mod written_build;
 

@@ -1,5 +1,5 @@
 //! The table of a build.
-ghost use Rattle.std.specs.Prelude.{◌≡◌, ◌<◌, ◌≤◌, ◌^◌, All, IfOk, IfSome, OnOk, IsTrue, pos};
+ghost use Rattle.std.specs.Prelude.{◌≡◌, ◌<◌, ◌≤◌, ◌^◌, All, IfOk, IfSome, OnOk, IsTrue, codes, option_map, pos};
 ghost use Rattle.std.specs.Str.{IsAscii};
 ghost use Rattle.toml.specs.Data.{string, integer};
 ghost use Rattle.toml.specs.View.{view, table_view};
@@ -8,8 +8,9 @@ ghost use Rattle.ct_words.specs.Text.{word_text};
 ghost use Rattle.ct_names.specs.Id.{is_id};
 ghost use Rattle.ct_build.specs.Build.{FieldsFit};
 ghost use Rattle.ct_fields.specs.Written.{put};
+ghost use Rattle.ct_fields.specs.WrittenSchema.{put_some, written_table};
 ghost use Rattle.ct_build_files.specs.Operation.{operation_text, operation_of};
-ghost use Rattle.ct_build_files.specs.WrittenBuild.{number_list, digits_text, put_step, put_other, base_table, build_table};
+ghost use Rattle.ct_build_files.specs.WrittenBuild.{number_list, digits_text, step_fields, build_fields, put_fields};
 
 use crate::operation::Operation;
 use ct_build::Step;
@@ -66,7 +67,7 @@ fn put_places(alloc: Global, table: &mut Table, places: &[u32]) -> Result<(), Al
 }
 
 /// Puts the digits of the step.
-#[tactic(auto, using(crate::proofs::WrittenBuild::IsAscii_digits_text))]
+#[tactic(auto, using(crate::proofs::PutFields::IsAscii_digits_text))]
 fn put_digits(alloc: Global, table: &mut Table, digits: &[u32]) -> Result<(), AllocError>
     requires { All (λ a. a < 2) digits.now }
     ensures { OnOk result (table_view table.new ≡ put FieldName.Digits (string (digits_text digits.now)) (table_view table.old)) }
@@ -90,7 +91,7 @@ fn put_by(alloc: Global, table: &mut Table, n: u32, by: Word) -> Result<(), Allo
 fn put_step(alloc: Global, table: &mut Table, step: &Step, stated: Entry) -> Result<(), AllocError>
     requires room { stated.n ≤ MAX_N }
     requires fits { FieldsFit step.now stated }
-    ensures { OnOk result (table_view table.new ≡ put_step step.now stated.n (table_view table.old)) }
+    ensures { OnOk result (table_view table.new ≡ put_fields (step_fields step.now stated.n) (table_view table.old)) }
 {
     match step {
         Step::Puncture(places) => put_places(alloc, table, places.as_slice()),
@@ -114,9 +115,9 @@ fn put_id(alloc: Global, table: &mut Table, name: FieldName, id: &Id) -> Result<
     put(alloc, table, name, value)
 }
 
-/// Puts the id of the other piece, where there is one.
+/// Puts the id of the other piece, if there is one.
 fn put_other(alloc: Global, table: &mut Table, other: Option<Id>) -> Result<(), AllocError>
-    ensures table { OnOk result (table_view table.new ≡ put_other other (table_view table.old)) }
+    ensures table { OnOk result (table_view table.new ≡ put_some FieldName.Other (option_map string other) (table_view table.old)) }
     ensures id { IfSome other (λ id. IsTrue (is_id id)) }
 {
     match other {
@@ -134,17 +135,6 @@ fn put_operation(alloc: Global, table: &mut Table, step: &Step) -> Result<(), Al
     put(alloc, table, FieldName::Op, text)
 }
 
-/// The table of the fields of every build.
-fn base_table(alloc: Global, stated: Entry, step: &Step, part: &Id) -> Result<Table, AllocError>
-    ensures table { IfOk result (λ table. table_view table ≡ base_table stated step.now part.now) }
-    ensures part { IfOk result (λ table. IsTrue (is_id part.now)) }
-{
-    let mut table = entry_table(alloc, "build", stated.n, stated.d)?;
-    put_operation(alloc, &mut table, step)?;
-    put_id(alloc, &mut table, FieldName::Part, part)?;
-    Ok(table)
-}
-
 /// The table of a build.
 pub fn build_table(
     alloc: Global,
@@ -155,13 +145,15 @@ pub fn build_table(
 ) -> Result<Table, AllocError>
     requires room { stated.n ≤ MAX_N }
     requires fits { FieldsFit step.now stated }
-    ensures table { IfOk result (λ table. table_view table ≡ build_table stated step.now part other) }
+    ensures table { IfOk result (λ table. table_view table ≡ written_table (codes "build") (build_fields stated step.now part other)) }
     ensures part { IfOk result (λ table. IsTrue (is_id part)) }
     ensures other { IfOk result (λ table. IfSome other (λ id. IsTrue (is_id id))) }
 {
-    let mut table = base_table(alloc, stated, step, &part)?;
-    put_step(alloc, &mut table, step, stated)?;
-    put_other(alloc, &mut table, other)?;
+    let mut table = entry_table(alloc, "build", stated.n, stated.d)?;
     put_weight(alloc, &mut table, stated.w)?;
+    put_operation(alloc, &mut table, step)?;
+    put_id(alloc, &mut table, FieldName::Part, &part)?;
+    put_other(alloc, &mut table, other)?;
+    put_step(alloc, &mut table, step, stated)?;
     Ok(table)
 }

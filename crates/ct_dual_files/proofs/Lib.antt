@@ -1,15 +1,6 @@
 mod TextParts
-mod EntryLemmas
-mod DualFieldLemmas
-mod AfterMark
-mod ReadDuals
-pub mod DualAnswers
-pub mod OddAnswers
-pub mod JohnsonDualAnswers
-pub mod LocalAnswers
-pub mod FormedDuals
-pub mod WrittenDuals
-mod PutDuals
+pub mod DualForms
 pub mod DualRooms
+pub mod DualSchemas
 pub mod DualKind
 mod GivenDuals

@@ -1,61 +1,60 @@
--- The dual that a document states, or its first fault.
-use Rattle.std.specs.Prelude.{ℕ, Bool, true, false, List, [], ◌∷◌, Result, Ok}
-use Rattle.toml.specs.Data.{Data}
-use Rattle.ct_words.specs.declared.limits.TheConstants.{MAX_N}
+-- The documents of duals: what their fields state, and what is written for them.
+use Rattle.std.specs.Prelude.{ℕ, pos, Bool, false, List, [], ◌∷◌, Option, Some, Ok}
+use Rattle.std.specs.Option.{unwrap_or}
+use Rattle.toml.specs.Data.{Data, integer, boolean}
 use Rattle.ct_words.specs.declared.entry.Entry.{Entry}
-use Rattle.ct_words.specs.Entry.{constant_weight}
-use Rattle.ct_fields.specs.Steps.{◌>>=◌, ◌>>◌}
-use Rattle.ct_fields.specs.Fields.{number_field}
-use Rattle.ct_fields.specs.LastFields.{last_fields}
-use Rattle.ct_fields.specs.StatedEntry.{plain_entry_of, distance_beside}
+use Rattle.ct_fields.specs.Schema.{Schema, states, needs, may_have}
+use Rattle.ct_fields.specs.EntrySchema.{plain_entry, weighted_entry}
+use Rattle.ct_fields.specs.WrittenSchema.{with_plain, with_entry}
 use Rattle.ct_fields.specs.declared.field.FieldName.{FieldName}
 use Rattle.ct_fields.specs.declared.field.FieldName.TheVariants as name
-use Rattle.ct_fields.specs.declared.fault.DocumentFault.{DocumentFault}
 use Rattle.ct_duals.specs.declared.dual.Dual.{Dual}
-use Rattle.ct_dual_files.specs.Fields.{even_field, odd_size_field, multipliers_field, allowances_field}
+use Rattle.ct_kind.specs.declared.evidence.Evidence.{Evidence}
+use Rattle.ct_kind.specs.declared.evidence.Evidence.TheVariants as evidence
+use Rattle.ct_dual_files.specs.Fields.{even_form, odd_size_form, integer_list, multipliers_form, pair_list, allowances_form}
 
--- the dual of this entry with this mark `even`: c and y, and what stands last in any document, whose fields are these
-abbrev pub dual_after : Entry → Bool → List FieldName → Data → Result Dual DocumentFault
-dual_after e even names document = do
-  c ← multipliers_field e document
-  y ← allowances_field e even document
-  last_fields names document
-  Ok (record { entry = e; even = even; c = c; y = y })
+-- the numbers of a dual of this entry with this mark `even`: c, and y, which is left out if nothing is allowed
+abbrev pub numbers_schema : Entry → Bool → (Dual → Evidence) → Schema Evidence
+numbers_schema e even made =
+    needs (multipliers_form e) (λ c.
+    may_have (allowances_form e even) (λ y. states (Ok (made (record { entry = e; even = even; c = c; y = unwrap_or y [] })))))
 
--- the dual of a document of kind dual: n, d, even, c and y, and what stands last
-unfoldable pub document_dual : Data → Result Dual DocumentFault
-document_dual document = do
-  e ← plain_entry_of document
-  even ← even_field e.d document
-  dual_after e even (name.N ∷ name.D ∷ name.Even ∷ name.C ∷ name.Y ∷ []) document
+-- kind dual: n, d, even, which may be left out if it is false, c and y
+abbrev pub dual_schema : Schema Evidence
+dual_schema = plain_entry (λ e. may_have (even_form e.d) (λ even. numbers_schema e (unwrap_or even false) evidence.Dual))
 
--- the dual of a document of kind odd, and its number of words: n, d, even, m, c and y, and what stands last
-unfoldable pub odd_of : Data → Result (Dual × ℕ) DocumentFault
-odd_of document = do
-  e ← plain_entry_of document
-  even ← even_field e.d document
-  m ← odd_size_field document
-  d ← dual_after e even (name.N ∷ name.D ∷ name.Even ∷ name.M ∷ name.C ∷ name.Y ∷ []) document
-  Ok (d, m)
+-- kind odd: n, d, even, the number of words m, c and y
+abbrev pub odd_schema : Schema Evidence
+odd_schema =
+    plain_entry (λ e.
+    may_have (even_form e.d) (λ even. needs odd_size_form (λ m. numbers_schema e (unwrap_or even false) (λ d. evidence.Odd d m))))
 
--- the entry of a document of kind jdual: n, an even d, and w
-unfoldable pub weighted_entry_of : Data → Result Entry DocumentFault
-weighted_entry_of document = do
-  n ← number_field name.N 1 MAX_N document
-  d ← distance_beside true document
-  w ← number_field name.W 0 n document
-  Ok (constant_weight n d w)
+-- kind jdual: n, an even d, w and c
+abbrev pub johnson_dual_schema : Schema Evidence
+johnson_dual_schema =
+    weighted_entry (λ e.
+    needs (multipliers_form e) (λ c. states (Ok (evidence.JohnsonDual (record { entry = e; even = false; c = c; y = [] })))))
 
--- the dual of a document of kind jdual: n, d, w and c, and what stands last in any document
-unfoldable pub johnson_dual_of : Data → Result Dual DocumentFault
-johnson_dual_of document = do
-  e ← weighted_entry_of document
-  c ← multipliers_field e document
-  last_fields (name.N ∷ name.D ∷ name.W ∷ name.C ∷ []) document
-  Ok (record { entry = e; even = false; c = c; y = [] })
+-- kind jlocal: n, an even d, w, c and y
+abbrev pub local_dual_schema : Schema Evidence
+local_dual_schema = weighted_entry (λ e. numbers_schema e false evidence.JohnsonLocal)
 
--- the dual of a document of kind jlocal: n, d, w, c and y, and what stands last
-unfoldable pub local_dual_of : Data → Result Dual DocumentFault
-local_dual_of document = do
-  e ← weighted_entry_of document
-  dual_after e false (name.N ∷ name.D ∷ name.W ∷ name.C ∷ name.Y ∷ []) document
+-- the numbers of a dual
+abbrev pub numbers_fields : Dual → List (FieldName × Option Data)
+numbers_fields d = (name.C, Some (integer_list d.c)) ∷ (name.Y, Some (pair_list d.y)) ∷ []
+
+-- what is written for a document of kind dual
+abbrev pub dual_fields : Dual → List (FieldName × Option Data)
+dual_fields d = with_plain d.entry ((name.Even, Some (boolean d.even)) ∷ numbers_fields d)
+
+-- for one of kind odd
+abbrev pub odd_fields : Dual → ℕ → List (FieldName × Option Data)
+odd_fields d m = with_plain d.entry ((name.Even, Some (boolean d.even)) ∷ (name.M, Some (integer (pos m))) ∷ numbers_fields d)
+
+-- for one of kind jdual
+abbrev pub johnson_dual_fields : Dual → List (FieldName × Option Data)
+johnson_dual_fields d = with_entry d.entry ((name.C, Some (integer_list d.c)) ∷ [])
+
+-- for one of kind jlocal
+abbrev pub local_dual_fields : Dual → List (FieldName × Option Data)
+local_dual_fields d = with_entry d.entry (numbers_fields d)

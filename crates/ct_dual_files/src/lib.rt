@@ -3,11 +3,10 @@
 
 mod dual_fault_text;
 pub mod dual_kind;
-mod entries;
 mod fields;
 mod reading;
 mod written;
 
 pub use dual_fault_text::put_dual_fault;
-pub use reading::{dual_of, johnson_dual_of, local_dual_of, odd_of};
+pub use reading::{dual_evidence, johnson_dual_evidence, local_dual_evidence, odd_evidence};
 pub use written::{dual_table, johnson_dual_table, local_dual_table, odd_table};

@@ -1,5 +1,5 @@
 -- A table and the same with cites: what it has at the other keys, and what stands last in it.
-use Rattle.std.proofs.Common.{◌≡◌, ℕ, ◌≤◌, Bool, true, false, List, [], ◌∷◌, map, codes, None, pos, is_eq, nat_cmp, inl, inr, refl, sym, ◌∙◌, lit≤, arith}
+use Rattle.std.proofs.Common.{◌≡◌, ℕ, ◌≤◌, true, false, List, [], ◌∷◌, map, codes, None, pos, is_eq, nat_cmp, inl, inr, refl, sym, ◌∙◌, lit≤, arith}
 use Rattle.std.specs.Cmp.Lexicographic.{slice_cmp}
 use Rattle.toml.specs.Data.{Data, string, integer, table, Members, get, get_member, items_depth, members_depth}
 use Rattle.toml.specs.View.{items_of}
@@ -14,13 +14,7 @@ use Rattle.ct_fields.specs.declared.field.FieldName.{FieldName}
 use Rattle.ct_fields.specs.declared.field.FieldName.TheVariants as name
 use Rattle.ct_fields.proofs.FieldLemmas.{has_only-true, has_only-from}
 use Rattle.ct_fields.proofs.MemberLemmas.{get_member-same, get_member-other, keys_are_named-put, members_depth-put}
-use Rattle.ct_fields.proofs.LastLemmas.{among_all, from_own}
-
--- whether the field is one of a kind, and neither the format nor the cites
-abbrev pub is_of_a_kind : FieldName → Bool
-is_of_a_kind name.Format = false
-is_of_a_kind name.Cites = false
-is_of_a_kind field = true
+use Rattle.ct_fields.proofs.LastLemmas.{is_of_a_kind, among_all, from_own}
 
 -- the tables have the same at the key `kind` and at the keys of the kinds
 pub record Alike (document other : Data) : Type 0 where

@@ -1,5 +1,5 @@
 -- What the fields of a table are, where they are read, and where they are not.
-use Rattle.std.proofs.Common.{◌≡◌, ◌≢◌, ℕ, ◌≤◌, Bool, true, false, ◌&&◌, ◌||◌, nat_le, pos, negsuc, List, [], ◌∷◌, map, codes, Option, Some, None, IsSome, Ok, Err, ok_or, option_and_then, Ordering, Less, Equal, Greater, nat_cmp, inl, inr, refl, sym, ap, ◌∙◌, le-leb}
+use Rattle.std.proofs.Common.{◌≡◌, ℕ, ◌≤◌, Bool, true, false, ◌&&◌, ◌||◌, nat_le, pos, negsuc, List, [], ◌∷◌, map, codes, Option, Some, None, IsSome, Ok, Ordering, Less, Equal, Greater, nat_cmp, inl, inr, refl, sym, ap, ◌∙◌, le-leb}
 use Rattle.std.specs.List.{list_any}
 use Rattle.std.specs.Str.{bytes_eq}
 use Rattle.std.specs.Option.{option_map_or}
@@ -14,8 +14,8 @@ use Rattle.std.proofs.lemmas.Slice.Eq.{bytes_eq-Decides}
 use Rattle.toml.specs.Data.{Data, string, integer, float, boolean, datetime, array, table, Items, no_items, item, Members, no_members, member, get, get_member, as_str}
 use Rattle.toml.specs.View.{items_of}
 use Rattle.ct_fields.specs.Field.{field_text}
-use Rattle.ct_fields.specs.Fields.{is_text, is_of_kind, field, number_in, number_field, texts_of, texts_in, texts_field, is_named, keys_are_named, has_only}
-use Rattle.ct_fields.specs.Tables.{IsOfKind, HasNumber, HasText, HasTexts, IsNamed}
+use Rattle.ct_fields.specs.Fields.{is_text, is_of_kind, number_in, number_field, texts_of, texts_in, is_named, keys_are_named, has_only}
+use Rattle.ct_fields.specs.Tables.{IsOfKind, HasNumber, IsNamed}
 use Rattle.ct_fields.specs.declared.field.FieldName.{FieldName}
 use Rattle.ct_fields.specs.declared.fault.DocumentFault.TheVariants.{Field}
 use Rattle.ct_fields.proofs.StepLemmas.{ok_or-ok}
@@ -81,14 +81,6 @@ as_str-some (datetime t) text e = absurd cc
 as_str-some (array ds) text e = absurd cc
 as_str-some (table ms) text e = absurd cc
 
--- a text is read exactly where the field is one
-pub text_field-ok : (name : FieldName) (document : Data) (text : List ℕ) → field as_str name document ≡ Ok text → HasText name document text
-text_field-ok name document text e =
-    option_and_then_some as_str (get (field_text name) document) text (ok_or-ok _ (Field name) text e) (λ d found h. found ∙ ap Some (as_str-some d text h))
-
-pub text_field-from : (name : FieldName) (document : Data) (text : List ℕ) → HasText name document text → field as_str name document ≡ Ok text
-text_field-from name document text h = rw h refl
-
 -- the texts of a list that is read
 texts_of-some : (ds : Items) (texts : List (List ℕ)) → texts_of ds ≡ Some texts → ds ≡ items_of (map string texts)
 texts_of-some no_items texts e = let same : [] ≡ texts = cc in rw (← same) refl
@@ -114,21 +106,6 @@ texts_in-some (float x) texts e = absurd cc
 texts_in-some (boolean b) texts e = absurd cc
 texts_in-some (datetime t) texts e = absurd cc
 texts_in-some (table ms) texts e = absurd cc
-
--- texts are read exactly where the field is a list of them
-pub texts_field-ok : (name : FieldName) (document : Data) (texts : List (List ℕ)) → texts_field name document ≡ Ok texts → HasTexts name document texts
-texts_field-ok name document texts e =
-    option_and_then_some texts_in (get (field_text name) document) texts (ok_or-ok _ (Field name) texts e) (λ d found h. found ∙ ap Some (texts_in-some d texts h))
-
-pub texts_field-from : (name : FieldName) (document : Data) (texts : List (List ℕ)) → HasTexts name document texts → texts_field name document ≡ Ok texts
-texts_field-from name document texts h = rw (h, texts_of-items_of texts) refl
-
--- a field that can't be read gives its own fault
-pub field-missing : {A : Type 0} (form : Data → Option A) (name : FieldName) (document : Data) → ((x : A) → field form name document ≢ Ok x) → field form name document ≡ Err (Field name)
-field-missing {A} form name document none = missing (option_and_then form (get (field_text name) document)) none where
-  missing : (found : Option A) → ((x : A) → ok_or found (Field name) ≢ Ok x) → ok_or found (Field name) ≡ Err (Field name)
-  missing None none = refl
-  missing (Some x) none = absurd (none x refl)
 
 -- a test of what is seen of the items
 list_any-map : {X Y : Type 0} (p : Y → Bool) (f : X → Y) → (xs : List X) → list_any p (map f xs) ≡ list_any (λ x. p (f x)) xs

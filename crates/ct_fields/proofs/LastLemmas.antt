@@ -1,8 +1,8 @@
 -- What stands last in a table: where it is right, and which fault is judged first.
-use Rattle.std.proofs.Common.{◌≡◌, Bool, true, false, ◌||◌, List, [], ◌∷◌, ℕ, codes, Option, Some, None, Ok, Err, is_ok, inl, inr, refl, sym, ◌∙◌, subst}
+use Rattle.std.proofs.Common.{◌≡◌, Bool, true, false, ◌||◌, List, [], ◌∷◌, ◌++◌, ℕ, codes, Option, Some, None, Ok, Err, is_ok, inl, inr, refl, sym, ◌∙◌, subst}
 use Rattle.std.specs.List.{list_any}
 use Rattle.std.specs.Str.{bytes_eq}
-use Rattle.std.proofs.lemmas.Bool.{cases_Bool, false≢true}
+use Rattle.std.proofs.lemmas.Bool.{cases_Bool, false≢true, or_parts, or_from}
 use Rattle.toml.specs.Data.{Data, table, Members, get}
 use Rattle.ct_fields.specs.Field.{field_text}
 use Rattle.ct_fields.specs.Steps.{check}
@@ -138,6 +138,39 @@ not_there names ms key only other = at (get key (table ms)) refl where
 pub record AreOwn (names : List FieldName) : Type 0 where
   pub no_format : is_named names (field_text Format) ≡ false
   pub no_cites : is_named names (field_text Cites) ≡ false
+
+-- whether the field is one of a kind, and neither the format nor the cites
+abbrev pub is_of_a_kind : FieldName → Bool
+is_of_a_kind Format = false
+is_of_a_kind Cites = false
+is_of_a_kind field = true
+
+-- one more such field
+none_is : (test : FieldName → Bool) (names : List FieldName) (field : FieldName) → list_any test names ≡ false → test field ≡ false
+    → list_any test (names ++ field ∷ []) ≡ false
+none_is test [] field none not_it = rw not_it refl
+none_is test (name ∷ names) field none not_it =
+    let (other, others) = or_parts (test name) (list_any test names) none in
+    or_from (test name) (list_any test (names ++ field ∷ [])) other (none_is test names field others not_it)
+
+no_format : (field : FieldName) → is_of_a_kind field ≡ true → bytes_eq (field_text Format) (field_text field) ≡ false
+no_format Format own = absurd cc
+no_format Cites own = absurd cc
+no_format field own = refl
+
+no_cites : (field : FieldName) → is_of_a_kind field ≡ true → bytes_eq (field_text Cites) (field_text field) ≡ false
+no_cites Format own = absurd cc
+no_cites Cites own = absurd cc
+no_cites field own = refl
+
+pub own-none : AreOwn []
+own-none = record { no_format = refl; no_cites = refl }
+
+pub own-more : (names : List FieldName) (field : FieldName) → AreOwn names → is_of_a_kind field ≡ true → AreOwn (names ++ field ∷ [])
+own-more names field own is = record {
+  no_format = none_is (λ name. bytes_eq (field_text Format) (field_text name)) names field own.no_format (no_format field is);
+  no_cites = none_is (λ name. bytes_eq (field_text Cites) (field_text name)) names field own.no_cites (no_cites field is);
+}
 
 -- what stands last in such a table is right
 pub HasLast-own : (names : List FieldName) (ms : Members) → AreOwn names → has_only names (table ms) ≡ true → HasLast names (table ms)

@@ -2,7 +2,6 @@ mod Documents
 pub mod StepLemmas
 pub mod OneAnswer
 pub mod FieldLemmas
-pub mod EntryAnswers
 pub mod WordsLemmas
 pub mod MemberLemmas
 pub mod WordTexts
@@ -13,7 +12,12 @@ pub mod RoomLemmas
 mod CiteTexts
 pub mod CiteLemmas
 pub mod LastLemmas
+pub mod SchemaLemmas
+pub mod EntryForms
+pub mod WrittenSchema
+pub mod WrittenRooms
 pub mod CitedTables
+pub mod CitedSchema
 pub mod PushedValues
 pub mod Reserved
 pub mod ReadLists

@@ -1,5 +1,5 @@
 -- A reading has one answer: a value or a fault; and the fault of a step is that of the whole.
-use Rattle.std.proofs.Common.{◌≡◌, ◌≢◌, Option, Some, None, Result, Ok, Err, sym, ap, subst, ◌∙◌}
+use Rattle.std.proofs.Common.{◌≡◌, ◌≢◌, Result, Ok, Err, sym, ap, subst, ◌∙◌}
 use Rattle.ct_fields.specs.Reads.{Reads}
 use Rattle.ct_fields.specs.declared.fault.DocumentFault.{DocumentFault}
 use Rattle.ct_fields.specs.declared.fault.DocumentFault.TheVariants.{Memory}
@@ -8,17 +8,9 @@ use Rattle.ct_fields.specs.declared.fault.DocumentFault.TheVariants.{Memory}
 pub value_no_fault : {A : Type 0} (x : A) (fault : DocumentFault) → ◌≡◌ {A = Result A DocumentFault} (Ok x) (Err fault) → ⊥
 value_no_fault x fault e = cc
 
--- so what is read has none
-pub read_no_fault : {A : Type 0} (r : Result A DocumentFault) (x : A) (fault : DocumentFault) → r ≡ Ok x → r ≡ Err fault → ⊥
-read_no_fault r x fault read wrong = value_no_fault x fault (sym read ∙ wrong)
-
 -- and is one value
 pub same_value : {A : Type 0} (x y : A) → ◌≡◌ {A = Result A DocumentFault} (Ok x) (Ok y) → x ≡ y
 same_value x y e = cc
-
--- what is found is not nothing
-pub found_some : {A : Type 0} (x : A) → ◌≡◌ {A = Result (Option A) DocumentFault} (Ok (Some x)) (Ok None) → ⊥
-found_some x e = cc
 
 -- the fault of a step is handed on as it is
 pub handed_on : {X Y : Type 0} (view : X → Y) (r : Result X DocumentFault) (read : Result Y DocumentFault) (y fault : DocumentFault) → r ≡ Err y → y ≡ fault

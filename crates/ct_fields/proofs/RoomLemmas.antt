@@ -1,6 +1,6 @@
 -- Simple tables: what is put at their keys, and the room that there is for it.
-use Rattle.std.proofs.Common.{◌≡◌, ℕ, ◌<◌, ◌≤◌, Bool, true, ◌&&◌, nat_le, List, [], ◌∷◌, map, length, codes, Option, Some, None, Ordering, Less, Equal, Greater, nat_cmp, refl, arith}
-use Rattle.std.specs.Prelude.{◌+◌, ◌*◌, pos, IsTrue, All}
+use Rattle.std.proofs.Common.{◌≡◌, ℕ, ◌<◌, ◌≤◌, Bool, true, ◌&&◌, nat_le, List, [], ◌∷◌, map, length, Ordering, Less, Equal, Greater, nat_cmp, refl, arith}
+use Rattle.std.specs.Prelude.{◌+◌, ◌*◌, IsTrue, All}
 use Rattle.std.proofs.lemmas.List.Elements.{All-head, All-tail}
 use Rattle.std.specs.Char.{is_ascii_lowercase}
 use Rattle.std.specs.List.{list_all}
@@ -9,12 +9,12 @@ use Rattle.std.specs.Ordering.{match_ordering}
 use Rattle.std.proofs.lemmas.Bool.{and_parts, and_from, leb-true}
 use Rattle.std.proofs.lemmas.Bool.Decides.{nat_tests}
 use Rattle.toml_parser.specs.Lexical.{is_bare}
-use Rattle.toml.specs.Data.{Data, string, integer, Members, no_members, member}
+use Rattle.toml.specs.Data.{Data, Members, no_members, member}
 use Rattle.ct_words.specs.Text.{word_text, is_binary_digit}
 use Rattle.ct_words.proofs.TextLemmas.{length-word_text, digits-word_text}
 use Rattle.ct_names.specs.Id.{is_id, is_id_byte}
 use Rattle.ct_names.specs.declared.id.TheConstants.{MAX_ID}
-use Rattle.ct_fields.specs.Written.{word_texts, set_member, put_weight, entry_table}
+use Rattle.ct_fields.specs.Written.{word_texts, set_member}
 use Rattle.ct_fields.specs.Inside.Room.{IsBare, IsSimple, IsSimpleTable, room, table_room}
 
 -- the table is simple, and its text has so many bytes at most
@@ -51,21 +51,6 @@ holds-put k d ms a r b some short bare simple small h = record {
 -- more room than that
 pub holds-more : (ms : Members) (a b : ℕ) → Holds ms a → a ≤ b → Holds ms b
 holds-more ms a b h more = record { simple = h.simple; small = let all = h.small in omega (arith, all, more) }
-
--- the weight, where there is one
-pub holds-weight : (w : Option ℕ) (ms : Members) (b : ℕ) → Holds ms b → Holds (put_weight w ms) (25 + b)
-holds-weight None ms b h = holds-more ms b (25 + b) h (omega arith)
-holds-weight (Some w) ms b h = holds-put (codes "w") (integer (pos w)) ms 1 20 b (omega arith) (omega arith) refl tt (omega arith) h
-
--- the table of a kind with a length and a distance
-pub holds-entry : (kind : List ℕ) (n d a : ℕ) → IsBare kind → length kind ≤ a → Holds (entry_table kind n d) (60 + a)
-holds-entry kind n d a bare short =
-    let kind_alone : Holds (member (codes "kind") (string kind) no_members) (10 + a) = record {
-      simple = (omega arith, refl, bare, tt);
-      small = omega (arith, short);
-    } in
-    let with_length = holds-put (codes "n") (integer (pos n)) _ 1 20 (10 + a) (omega arith) (omega arith) refl tt (omega arith) kind_alone in
-    holds-more _ _ _ (holds-put (codes "d") (integer (pos d)) _ 1 20 (25 + (10 + a)) (omega arith) (omega arith) refl tt (omega arith) with_length) (omega arith)
 
 -- ---- values
 

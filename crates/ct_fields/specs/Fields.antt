@@ -1,5 +1,5 @@
 -- The fields of an evidence document: what stands at a key, where it has the form that is asked.
-use Rattle.std.specs.Prelude.{ℕ, suc, pos, Bool, true, false, nat_le, ◌&&◌, ◌||◌, if◌then◌else◌, List, [], ◌∷◌, Option, Some, None, Result, Ok, ok_or, codes}
+use Rattle.std.specs.Prelude.{ℕ, suc, pos, Bool, true, false, nat_le, ◌&&◌, ◌||◌, if◌then◌else◌, List, [], ◌∷◌, Option, Some, None, is_some, Result, Ok, ok_or, codes}
 use Rattle.std.specs.Option.{option_and_then, option_map_or}
 use Rattle.std.specs.List.{list_any}
 use Rattle.std.specs.Str.{bytes_eq}
@@ -19,6 +19,10 @@ is_text text _ = false
 -- whether the document is of the kind
 abbrev pub is_of_kind : List ℕ → Data → Bool
 is_of_kind kind document = option_map_or (is_text kind) (get (codes "kind") document) false
+
+-- whether the document has the key of the field, whatever its value
+abbrev pub has_field : FieldName → Data → Bool
+has_field name document = is_some (get (field_text name) document)
 
 -- what stands at the key of the field, in the form that is asked
 -- (the fault of the field where it is missing or of another form)

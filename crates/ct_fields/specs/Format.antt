@@ -1,8 +1,7 @@
 -- The formats of documents.
 use Rattle.std.specs.Prelude.{ℕ, Bool, if◌then◌else◌, Result, Ok, is_ok}
 use Rattle.toml.specs.Data.{Data}
-use Rattle.ct_fields.specs.Fields.{number_field}
-use Rattle.ct_fields.specs.StatedEntry.{has_field}
+use Rattle.ct_fields.specs.Fields.{has_field, number_field}
 use Rattle.ct_fields.specs.declared.field.FieldName.TheVariants.{Format}
 use Rattle.ct_fields.specs.declared.fault.DocumentFault.{DocumentFault}
 

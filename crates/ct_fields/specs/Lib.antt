@@ -3,9 +3,7 @@ pub mod Steps
 pub mod Reads
 pub mod Fields
 pub mod Document
-pub mod StatedEntry
 pub mod Tables
-pub mod StatesEntry
 pub mod Written
 pub mod Ids
 pub mod Forms
@@ -13,4 +11,7 @@ pub mod Format
 pub mod Cites
 pub mod LastFields
 pub mod HasCites
+pub mod Schema
+pub mod EntrySchema
+pub mod WrittenSchema
 pub mod Inside

@@ -1,5 +1,5 @@
 -- What is written at the keys of a table.
-use Rattle.std.specs.Prelude.{ℕ, ◌+◌, ◌*◌, pos, List, [], ◌∷◌, length, map, sum_by, Option, Some, None, codes}
+use Rattle.std.specs.Prelude.{ℕ, ◌+◌, ◌*◌, pos, List, [], ◌∷◌, length, map, sum_by, codes}
 use Rattle.std.specs.Ordering.{nat_cmp, match_ordering}
 use Rattle.std.specs.Cmp.Lexicographic.{slice_cmp}
 use Rattle.toml.specs.Data.{Data, string, integer, array, Members, no_members, member}
@@ -22,11 +22,6 @@ set_member k d (member l e ms) = match_ordering (slice_cmp nat_cmp k l) (member 
 -- the same at the key of a field
 abbrev pub put : FieldName → Data → Members → Members
 put name = set_member (field_text name)
-
--- the weight, where there is one
-abbrev pub put_weight : Option ℕ → Members → Members
-put_weight None ms = ms
-put_weight (Some w) ms = put name.W (integer (pos w)) ms
 
 -- the table of a kind with a length and a distance
 abbrev pub entry_table : List ℕ → ℕ → ℕ → Members

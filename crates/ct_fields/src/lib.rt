@@ -15,9 +15,7 @@ mod writing;
 
 pub use cites::{MAX_CITES, cites_of};
 pub use document::{MAX_DOCUMENT, is_of_kind, read_table, table_bytes};
-pub use entry::{
-    distance_beside, has_field, length_field, plain_entry, stated_entry, weight_field,
-};
+pub use entry::{distance_field, has_field, length_field, weight_field};
 pub use fault::DocumentFault;
 pub use field::FieldName;
 pub use fields::{number_field, text_field, texts_field, texts_of, words_from};

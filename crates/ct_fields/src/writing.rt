@@ -1,11 +1,12 @@
 //! What is written at the keys of a table.
-ghost use Rattle.std.specs.Prelude.{◌≡◌, ◌^◌, ◌<◌, ◌≤◌, [], ◌∷◌, All, IfOk, IsTrue, OnOk, codes, pos};
+ghost use Rattle.std.specs.Prelude.{◌≡◌, ◌^◌, ◌<◌, ◌≤◌, [], ◌∷◌, All, IfOk, IsTrue, OnOk, codes, option_map, pos};
 ghost use Rattle.toml.specs.Data.{string, integer, array};
 ghost use Rattle.toml.specs.View.{view, table_view, items_of};
 ghost use Rattle.ct_words.specs.declared.limits.TheConstants.{MAX_N};
 ghost use Rattle.ct_words.specs.Text.{word_text};
 ghost use Rattle.ct_names.specs.Cite.{is_cite};
-ghost use Rattle.ct_fields.specs.Written.{word_texts, set_member, put, put_weight, put_cites, entry_table};
+ghost use Rattle.ct_fields.specs.Written.{word_texts, set_member, put, put_cites, entry_table};
+ghost use Rattle.ct_fields.specs.WrittenSchema.{put_some};
 
 use crate::cites::cite_values;
 use crate::field::FieldName;
@@ -93,9 +94,9 @@ pub fn put_words(
     put(alloc, table, name, value)
 }
 
-/// Puts the weight, where there is one.
+/// Puts the weight, if there is one.
 pub fn put_weight(alloc: Global, table: &mut Table, w: Option<u32>) -> Result<(), AllocError>
-    ensures { OnOk result (table_view table.new ≡ put_weight w (table_view table.old)) }
+    ensures { OnOk result (table_view table.new ≡ put_some FieldName.W (option_map (λ k. integer (pos k)) w) (table_view table.old)) }
 {
     match w {
         Some(w) => put(alloc, table, FieldName::W, Value::from(w)),

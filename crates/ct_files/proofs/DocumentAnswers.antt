@@ -14,24 +14,20 @@ use Rattle.ct_fields.specs.declared.fault.DocumentFault.{DocumentFault}
 use Rattle.ct_fields.specs.declared.fault.DocumentFault.TheVariants.{Bytes, NotToml, Field, Kind as NoKind}
 use Rattle.ct_fields.proofs.FieldLemmas.{is_of_kind-true, is_of_kind-from}
 use Rattle.ct_kind.specs.declared.evidence.Evidence.{Evidence}
-use Rattle.ct_kind.specs.declared.evidence.Evidence.TheVariants as evidence
-use Rattle.ct_word_files.proofs.WordsAnswers.{words_answers}
-use Rattle.ct_word_files.proofs.CosetsAnswers.{cosets_answers}
-use Rattle.ct_partition_files.proofs.PartitionAnswers.{partition_answers}
-use Rattle.ct_partition_files.proofs.ProductAnswers.{product_answers}
-use Rattle.ct_build_files.proofs.BuildFaultAnswers.{build_answers}
 use Rattle.ct_files.specs.Evidence.{evidence_of, read_without_limit, read_of}
-use Rattle.ct_files.specs.Kinds.{kind_of, kind_text, kind_in, evidence_by}
-use Rattle.ct_files.specs.Answers.{IsFieldsAnswer, IsAnswer, of_format, of_fields, IsOfNoKind}
+use Rattle.ct_files.specs.Kinds.{kind_of, kind_text, kind_in, schema_of, evidence_by}
+use Rattle.ct_files.specs.Answers.{IsAnswer, of_format, of_fields, IsOfNoKind, Accepts}
 use Rattle.ct_files.specs.declared.kind.Kind.{Kind}
 use Rattle.ct_files.specs.declared.kind.Kind.TheVariants as kind
+use Rattle.ct_files.proofs.KindLaws.{IsInside, laws_of_kind}
 use Rattle.ct_fields.specs.Steps.{◌>>=◌}
 use Rattle.ct_fields.specs.Format.{format_of}
 use Rattle.ct_fields.specs.HasCites.{HasRightFormat}
+use Rattle.ct_fields.specs.Schema.{IsAnswerBy}
 use Rattle.ct_fields.specs.declared.field.FieldName.TheVariants.{Format}
 use Rattle.ct_fields.proofs.StepLemmas.{bind-at, bind-at_err, bind-cases}
+use Rattle.ct_fields.proofs.SchemaLemmas.{answers_by, stated-answer, fault-has}
 use Rattle.ct_fields.proofs.CiteLemmas.{format_of-ok, format_of-from, format_of-err, format_of-wrong}
-use Rattle.ct_files.proofs.DualEvidence.{dual_evidences, johnson_dual_evidences, odd_evidences, local_dual_evidences}
 
 -- ---- what is said of each kind
 
@@ -47,17 +43,8 @@ unfolding evidence_of
 evidence_of-kind k document of_kind = bind-at (kind_in document) _ k (kind_in-named k document of_kind)
 
 -- each answer to its fields comes where it is said to come
-pub fields_by : (k : Kind) (ms : Members) → IsOfKind (kind_text k) (table ms) → (answer : Result Evidence DocumentFault)
-    → (evidence_by k (table ms) ≡ answer) ↔ IsFieldsAnswer k (table ms) answer
-fields_by kind.Words = words_answers
-fields_by kind.Cosets = cosets_answers
-fields_by kind.Partition = partition_answers
-fields_by kind.Build = build_answers
-fields_by kind.Product = product_answers
-fields_by kind.Dual = dual_evidences
-fields_by kind.JohnsonDual = johnson_dual_evidences
-fields_by kind.Odd = odd_evidences
-fields_by kind.JohnsonLocal = local_dual_evidences
+pub fields_by : (k : Kind) (ms : Members) (answer : Result Evidence DocumentFault) → (evidence_by k (table ms) ≡ answer) ↔ IsAnswerBy [] (schema_of k) (table ms) answer
+fields_by k ms answer = answers_by [] (schema_of k) ms (laws_of_kind k).forms answer
 
 -- and so does each answer to the document
 answer_by : (k : Kind) (ms : Members) → IsOfKind (kind_text k) (table ms) → IsAnswer k (table ms) (evidence_of (table ms))
@@ -65,7 +52,7 @@ answer_by k ms named =
     let P : Result Evidence DocumentFault → Type 0 = IsAnswer k (table ms) in
     subst P (sym (evidence_of-kind k (table ms) named))
     (bind-cases P (format_of (table ms)) (λ _. evidence_by k (table ms))
-    (λ f is. of_fields (f, format_of-ok (table ms) f is) ((fields_by k ms named (evidence_by k (table ms))).0 refl))
+    (λ f is. of_fields (f, format_of-ok (table ms) f is) ((fields_by k ms (evidence_by k (table ms))).0 refl))
     (λ fault is. let (same, wrong) = format_of-err (table ms) fault is in of_format wrong (ap (λ (f : DocumentFault). Err f) (sym same))))
 
 answer_by-from : (k : Kind) (ms : Members) → IsOfKind (kind_text k) (table ms) → (answer : Result Evidence DocumentFault) → IsAnswer k (table ms) answer
@@ -73,57 +60,25 @@ answer_by-from : (k : Kind) (ms : Members) → IsOfKind (kind_text k) (table ms)
 answer_by-from k ms named answer (of_format wrong same) =
     evidence_of-kind k (table ms) named ∙ bind-at_err (format_of (table ms)) _ (Field Format) (format_of-wrong (table ms) wrong) ∙ sym same
 answer_by-from k ms named answer (of_fields (f, has) comes) =
-    evidence_of-kind k (table ms) named ∙ bind-at (format_of (table ms)) _ f (format_of-from (table ms) f has) ∙ (fields_by k ms named answer).1 comes
+    evidence_of-kind k (table ms) named ∙ bind-at (format_of (table ms)) _ f (format_of-from (table ms) f has) ∙ (fields_by k ms answer).1 comes
 
-answers_by : (k : Kind) (ms : Members) → IsOfKind (kind_text k) (table ms) → (answer : Result Evidence DocumentFault)
+answered_by : (k : Kind) (ms : Members) → IsOfKind (kind_text k) (table ms) → (answer : Result Evidence DocumentFault)
     → (evidence_of (table ms) ≡ answer) ↔ IsAnswer k (table ms) answer
-answers_by k ms named answer = (λ same. subst (IsAnswer k (table ms)) same (answer_by k ms named), answer_by-from k ms named answer)
+answered_by k ms named answer = (λ same. subst (IsAnswer k (table ms)) same (answer_by k ms named), answer_by-from k ms named answer)
 
--- the evidence of a document of the kind is of the kind
-fields_of_kind : (k : Kind) (document : Data) (e : Evidence) → IsFieldsAnswer k document (Ok e) → k ≡ kind_of e
-fields_of_kind kind.Words document (evidence.Words _ _) states = refl
-fields_of_kind kind.Cosets document (evidence.Cosets _ _ _) states = refl
-fields_of_kind kind.Partition document (evidence.Partition _ _ _) states = refl
-fields_of_kind kind.Build document (evidence.Build _ _ _ _) states = refl
-fields_of_kind kind.Product document (evidence.Product _ _) states = refl
-fields_of_kind kind.Dual document (evidence.Dual _) states = refl
-fields_of_kind kind.JohnsonDual document (evidence.JohnsonDual _) states = refl
-fields_of_kind kind.Odd document (evidence.Odd _ _) states = refl
-fields_of_kind kind.JohnsonLocal document (evidence.JohnsonLocal _) states = refl
-fields_of_kind k document other never = absurd never
+-- an evidence is stated by a right format and the fields of a kind, which is its own
+pub stated_fields : (k : Kind) (document : Data) (e : Evidence) → IsAnswer k document (Ok e) → HasRightFormat document × IsAnswerBy [] (schema_of k) document (Ok e)
+stated_fields k document e (of_format wrong other) = absurd cc
+stated_fields k document e (of_fields right states) = (right, states)
 
 of_its_kind : (k : Kind) (document : Data) (e : Evidence) → IsAnswer k document (Ok e) → k ≡ kind_of e
-of_its_kind k document e (of_format wrong other) = absurd cc
-of_its_kind k document e (of_fields right states) = fields_of_kind k document e states
+of_its_kind k document e states =
+    ((laws_of_kind k).stated document e (stated-answer [] (schema_of k) document e (stated_fields k document e states).1)).kind
 
 -- the faults of bytes and of a kind are none of a document of the kind
-record NoneOutside (k : Kind) (document : Data) : Type 0 where
-  bytes : (b : ℕ) → ¬ (IsAnswer k document (Err (Bytes b)))
-  no_toml : ¬ (IsAnswer k document (Err NotToml))
-  no_kind : ¬ (IsAnswer k document (Err NoKind))
-
-record NoneOfFields (k : Kind) (document : Data) : Type 0 where
-  bytes : (b : ℕ) → ¬ (IsFieldsAnswer k document (Err (Bytes b)))
-  no_toml : ¬ (IsFieldsAnswer k document (Err NotToml))
-  no_kind : ¬ (IsFieldsAnswer k document (Err NoKind))
-
-none_of_fields : (k : Kind) (document : Data) → NoneOfFields k document
-none_of_fields kind.Words document = record { bytes = λ b h. h; no_toml = λ h. h; no_kind = λ h. h }
-none_of_fields k document = record { bytes = λ b h. h; no_toml = λ h. h; no_kind = λ h. h }
-
-none_outside : (k : Kind) (document : Data) → NoneOutside k document
-none_outside k document = record { bytes = bytes_never; no_toml = toml_never; no_kind = kind_never } where
-  bytes_never : (b : ℕ) → ¬ (IsAnswer k document (Err (Bytes b)))
-  bytes_never b (of_format wrong other) = absurd cc
-  bytes_never b (of_fields right comes) = (none_of_fields k document).bytes b comes
-
-  toml_never : ¬ (IsAnswer k document (Err NotToml))
-  toml_never (of_format wrong other) = absurd cc
-  toml_never (of_fields right comes) = (none_of_fields k document).no_toml comes
-
-  kind_never : ¬ (IsAnswer k document (Err NoKind))
-  kind_never (of_format wrong other) = absurd cc
-  kind_never (of_fields right comes) = (none_of_fields k document).no_kind comes
+inside : (k : Kind) (document : Data) (fault : DocumentFault) → IsAnswer k document (Err fault) → IsInside fault
+inside k document fault (of_format wrong is) = let same : Field Format ≡ fault = cc in subst IsInside same tt
+inside k document fault (of_fields right comes) = fault-has IsInside (λ name. tt) tt [] (schema_of k) document fault (laws_of_kind k).faults comes
 
 -- ---- documents of any kind
 
@@ -287,13 +242,8 @@ answers k bytes document answer written named =
     let (ms, parsed, same) = written.written in
     let read = read_of-document bytes document written in
     let (to, from) =
-    subst (λ (d : Data). IsOfKind (kind_text k) d → (evidence_of d ≡ answer) ↔ IsAnswer k d answer) (sym same) (λ here. answers_by k ms here answer) named
+    subst (λ (d : Data). IsOfKind (kind_text k) d → (evidence_of d ≡ answer) ↔ IsAnswer k d answer) (sym same) (λ here. answered_by k ms here answer) named
     in (λ e. to (sym read ∙ e), λ h. read ∙ from h)
-
--- a table that states an evidence of its kind reads as it
-pub evidence_of-stated : (ms : Members) (e : Evidence) → IsOfKind (kind_text (kind_of e)) (table ms) → IsAnswer (kind_of e) (table ms) (Ok e)
-    → evidence_of (table ms) ≡ Ok e
-evidence_of-stated ms e named states = answer_by-from (kind_of e) ms named (Ok e) states
 
 -- what a table reads as, its kind says of it
 stated_by : (document : Data) (e : Evidence) → DocumentAnswer document (Ok e) → IsAnswer (kind_of e) document (Ok e)
@@ -303,37 +253,31 @@ stated_by document e (of_no_kind none other) = absurd cc
 pub table_states : (ms : Members) (e : Evidence) → evidence_of (table ms) ≡ Ok e → IsAnswer (kind_of e) (table ms) (Ok e)
 table_states ms e read = stated_by (table ms) e (subst (DocumentAnswer (table ms)) read (table_answer ms))
 
--- an evidence is stated by a right format and the fields of its kind
-pub stated_fields : (k : Kind) (document : Data) (e : Evidence) → IsAnswer k document (Ok e) → HasRightFormat document × IsFieldsAnswer k document (Ok e)
-stated_fields k document e (of_format wrong other) = absurd cc
-stated_fields k document e (of_fields right states) = (right, states)
-
--- a document that is accepted as an evidence states it
-pub record Accepted (bytes : List ℕ) (e : Evidence) : Type 0 where
-  pub document : Data
-  pub written : IsDocument bytes document
-  pub format : HasRightFormat document
-  pub states : IsFieldsAnswer (kind_of e) document (Ok e)
-
-pub accepted : (bytes : List ℕ) (e : Evidence) → read_of bytes ≡ Ok e → Accepted bytes e
+-- bytes are accepted as an evidence exactly if they write a table that states it
+accepted : (bytes : List ℕ) (e : Evidence) → read_of bytes ≡ Ok e → Accepts bytes e
 accepted bytes e read = at (rw read at (bytes_answer bytes))
   where
-    at : BytesAnswer bytes (Ok e) → Accepted bytes e
+    named_by : (k : Kind) (document : Data) → IsAnswer k document (Ok e) → IsOfKind (kind_text k) document → IsOfKind (kind_text (kind_of e)) document
+    named_by k document states named = subst (λ (l : Kind). IsOfKind (kind_text l) document) (of_its_kind k document e states) named
+
+    at : BytesAnswer bytes (Ok e) → Accepts bytes e
     at (long many other) = absurd cc
     at (no_table short none other) = absurd cc
-    at (of_document document written answer) =
-        let (format, states) = stated_fields (kind_of e) document e (stated_by document e answer) in
-        record { document = document; written = written; format = format; states = states }
+    at (of_document document written (of_no_kind none other)) = absurd cc
+    at (of_document document written (of_kind k named answer)) =
+        let (format, states) = stated_fields (kind_of e) document e (stated_by document e (of_kind k named answer)) in
+        record { document = document; written = written; of_kind = named_by k document answer named; format = format; states = states }
 
--- and one that states it is accepted so
-pub accepted-from : (bytes : List ℕ) (e : Evidence) (document : Data) → IsDocument bytes document → IsOfKind (kind_text (kind_of e)) document
-    → HasRightFormat document → IsFieldsAnswer (kind_of e) document (Ok e) → read_of bytes ≡ Ok e
-accepted-from bytes e document written named format states = (answers (kind_of e) bytes document (Ok e) written named).1 (of_fields format states)
+accepted-from : (bytes : List ℕ) (e : Evidence) → Accepts bytes e → read_of bytes ≡ Ok e
+accepted-from bytes e a = (answers (kind_of e) bytes a.document (Ok e) a.written a.of_kind).1 (of_fields a.format a.states)
+
+pub accepts : (bytes : List ℕ) (e : Evidence) → (read_of bytes ≡ Ok e) ↔ Accepts bytes e
+accepts bytes e = (accepted bytes e, accepted-from bytes e)
 
 -- the kind of a document is refused exactly where it is another one
 pub no_kind : (bytes : List ℕ) (document : Data) → IsDocument bytes document → (read_of bytes ≡ Err NoKind) ↔ IsOfNoKind document
 no_kind bytes document written = (
-  λ e k named. (none_outside k document).no_kind ((answers k bytes document (Err NoKind) written named).0 e),
+  λ e k named. inside k document NoKind ((answers k bytes document (Err NoKind) written named).0 e),
   λ other. read_of-document bytes document written ∙ evidence_of-other document other,
 )
 
@@ -345,14 +289,14 @@ too_many bytes b = (λ e. only (rw e at (bytes_answer bytes)), λ h. read_of-lon
     only (long many is) = let same : b ≡ length bytes = cc in (same, many)
     only (no_table short none other) = absurd cc
     only (of_document document written (of_no_kind none other)) = absurd cc
-    only (of_document document written (of_kind k named answer)) = absurd ((none_outside k document).bytes b answer)
+    only (of_document document written (of_kind k named answer)) = absurd (inside k document (Bytes b) answer)
 
 -- bytes are refused as no TOML exactly where they are not too many and write no table
 pub no_tables : (bytes : List ℕ) → (read_of bytes ≡ Err NotToml) ↔ ((length bytes ≤ MAX_DOCUMENT) × ((document : Data) → ¬ (IsDocument bytes document)))
 no_tables bytes = (λ e. (only (rw e at (bytes_answer bytes)), λ document written. never (rw e at (document_answer bytes document written))), from)
   where
     never : {document : Data} → DocumentAnswer document (Err NotToml) → ⊥
-    never (of_kind k named answer) = (none_outside k _).no_toml answer
+    never (of_kind k named answer) = inside k _ NotToml answer
     never (of_no_kind none other) = absurd cc
 
     only : BytesAnswer bytes (Err NotToml) → length bytes ≤ MAX_DOCUMENT

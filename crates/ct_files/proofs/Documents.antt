@@ -1,5 +1,5 @@
 -- What bytes read as with their cites, and as evidence alone.
-use Rattle.std.proofs.Common.{◌≡◌, ℕ, ◌≤◌, Bool, true, false, cond, List, length, Option, Some, None, option_map, Result, Ok, Err, IfOk, ◌⊎◌, inl, inr, refl, sym, ap, ◌∙◌, subst, le-leb}
+use Rattle.std.proofs.Common.{◌≡◌, ℕ, ◌≤◌, Bool, true, false, cond, List, [], length, Option, Some, None, option_map, Result, Ok, Err, IfOk, ◌⊎◌, inl, inr, refl, sym, ap, ◌∙◌, subst, le-leb}
 use Rattle.std.proofs.lemmas.Bool.{lt-leb}
 use Rattle.std.proofs.lemmas.Str.{is_utf8-from_IsUtf8}
 use Rattle.std.specs.Str.{is_utf8}
@@ -9,48 +9,29 @@ use Rattle.ct_fields.specs.Document.{table_of}
 use Rattle.ct_fields.specs.Steps.{◌>>=◌}
 use Rattle.ct_fields.specs.Reads.{Reads}
 use Rattle.ct_fields.specs.Cites.{cites_of}
-use Rattle.ct_fields.specs.HasCites.{HasRightCites, HasLast}
+use Rattle.ct_fields.specs.HasCites.{HasRightCites}
+use Rattle.ct_fields.specs.Format.{format_of}
 use Rattle.ct_fields.specs.declared.document.TheConstants.{MAX_DOCUMENT}
-use Rattle.ct_fields.specs.declared.field.FieldName.{FieldName}
 use Rattle.ct_fields.specs.declared.fault.DocumentFault.{DocumentFault}
 use Rattle.ct_fields.proofs.StepLemmas.{bind-ok}
 use Rattle.ct_fields.proofs.CiteLemmas.{cites_of-ok, cites_of-from, HasCites-right}
+use Rattle.ct_fields.proofs.CitedSchema.{last-stated}
 use Rattle.ct_kind.specs.declared.evidence.Evidence.{Evidence}
-use Rattle.ct_kind.specs.declared.evidence.Evidence.TheVariants as evidence
-use Rattle.ct_word_files.specs.WordsDocument.{words_fields}
-use Rattle.ct_word_files.specs.CosetsDocument.{cosets_fields}
-use Rattle.ct_partition_files.specs.PartitionDocument.{partition_fields}
-use Rattle.ct_partition_files.specs.ProductDocument.{product_fields}
-use Rattle.ct_build_files.specs.Operation.{operation_of, build_fields}
-use Rattle.ct_dual_files.specs.DualDocument.{dual_fields, johnson_dual_fields}
-use Rattle.ct_dual_files.specs.OddDocument.{odd_fields}
-use Rattle.ct_dual_files.specs.LocalDocument.{local_dual_fields}
-use Rattle.ct_files.specs.Kinds.{kind_of}
-use Rattle.ct_files.specs.Answers.{IsFieldsAnswer}
+use Rattle.ct_files.specs.Kinds.{kind_in, schema_of, evidence_by}
 use Rattle.ct_files.specs.Evidence.{evidence_of, read_without_limit, read_of}
 use Rattle.ct_files.specs.Document.{DocumentValue, IsRightDocument, document_of, document_without_limit, document_read_of, evidence_part, AcceptsDocument}
-use Rattle.ct_files.proofs.DocumentAnswers.{stated_fields, table_states, short_or_long, document_from, read_of-document, read_of-long}
+use Rattle.ct_files.proofs.DocumentAnswers.{short_or_long, document_from, read_of-document, read_of-long}
 use Rattle.ct_files.proofs.Evidences.{read_without_limit-sound}
 
 -- ---- tables
 
--- what stands last in a table that states an evidence is right
-pub fields-last : (e : Evidence) (document : Data) → IsFieldsAnswer (kind_of e) document (Ok e) → (names : List FieldName) × HasLast names document
-fields-last (evidence.Words e words) document states = (words_fields, states.0.form.last)
-fields-last (evidence.Cosets e basis representatives) document states = (cosets_fields, states.0.form.last)
-fields-last (evidence.Partition e between classes) document states = (partition_fields, states.0.form.last)
-fields-last (evidence.Build e step part other) document states = (build_fields (operation_of step), states.last)
-fields-last (evidence.Product e pairs) document states = (product_fields, states.last)
-fields-last (evidence.Dual d) document states = (dual_fields, states.last)
-fields-last (evidence.JohnsonDual d) document states = (johnson_dual_fields, states.last)
-fields-last (evidence.Odd d m) document states = (odd_fields, states.last)
-fields-last (evidence.JohnsonLocal d) document states = (local_dual_fields, states.last)
-
--- so a table that reads as an evidence has right cites
+-- a table that reads as an evidence has right cites
 table-cites : (ms : Members) (e : Evidence) → evidence_of (table ms) ≡ Ok e → HasRightCites (table ms)
+unfolding evidence_of
 table-cites ms e read =
-    let (right, states) = stated_fields (kind_of e) (table ms) e (table_states ms e read) in
-    let (names, last) = fields-last e (table ms) states in
+    let (k, k-is, next) = bind-ok (kind_in (table ms)) _ e read in
+    let (f, f-is, states) = bind-ok (format_of (table ms)) (λ _. evidence_by k (table ms)) e next in
+    let (names, last) = last-stated [] (schema_of k) ms e states in
     last.cited
 
 -- the document of a table has the evidence of the table, or the same fault

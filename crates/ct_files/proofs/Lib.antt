@@ -1,11 +1,12 @@
 mod AtEvidence
 mod PutTexts
 mod ReadSteps
-mod DualEvidence
+mod MostBytes
+mod KindLaws
 pub mod DocumentAnswers
 pub mod Evidences
 pub mod Documents
-mod Written
+pub mod Written
 pub mod Lengths
 pub mod WrittenDocuments
 pub mod SameByKind

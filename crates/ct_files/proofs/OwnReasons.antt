@@ -21,7 +21,7 @@ use Rattle.ct_kind.specs.declared.evidence.Evidence.TheVariants.{Words, Cosets}
 use Rattle.ct_kind.specs.declared.evidence.Evidence.TheVariants as evidence
 use Rattle.ct_kind.specs.Named.{NamedCode, code_named, other_named}
 use Rattle.ct_kind.specs.declared.fault.SubmitFault.{SubmitFault}
-use Rattle.ct_kind.specs.declared.fault.SubmitFault.TheVariants.{WrongPart, Code, Partition, Build, Dual, Memory}
+use Rattle.ct_kind.specs.declared.fault.SubmitFault.TheVariants.{WrongPart, Code, Partition, Build, Dual}
 use Rattle.ct_build_files.specs.BuildKind.{build_refusal, step_reason}
 use Rattle.ct_partition_files.specs.ProductKind.{factors_named, wrong_id, short_of}
 use Rattle.ct_files.specs.ByKind.{own_reason}

@@ -1,9 +1,8 @@
 -- The pieces that evidence names, and that reasons against it name, are named by ids.
-use Rattle.std.proofs.Common.{◌≡◌, ℕ, zero, suc, Bool, true, false, cond, not, nat_lt, List, [], ◌∷◌, Option, Some, None, option_map, Result, Ok, IfSome, IsTrue, refl, ap, subst}
-use Rattle.std.specs.Prelude.{All, ⊤, find}
+use Rattle.std.proofs.Common.{◌≡◌, ℕ, zero, suc, Bool, true, false, cond, not, nat_lt, List, [], ◌∷◌, Option, Some, None, option_map, Ok, IfSome, IsTrue}
+use Rattle.std.specs.Prelude.{All, find}
 use Rattle.std.specs.Option.{option_to_list, unwrap_or}
 use Rattle.std.proofs.lemmas.List.Elements.{All-nil, All-cons, All-head, All-tail}
-use Rattle.toml.specs.Data.{Data, table}
 use Rattle.ct_words.specs.declared.entry.Entry.{Entry}
 use Rattle.ct_words.specs.declared.fault.CodeFault.{CodeFault}
 use Rattle.ct_words.specs.Code.{CodeValue}
@@ -12,7 +11,6 @@ use Rattle.ct_words.specs.Check.{code_fault}
 use Rattle.ct_words.specs.Coset.{coset_fault}
 use Rattle.ct_words.specs.Numbers.{numbers_of}
 use Rattle.ct_names.specs.Id.{is_id}
-use Rattle.ct_classes.specs.Partition.{PartitionValue}
 use Rattle.ct_classes.specs.declared.fault.PartitionFault.{PartitionFault}
 use Rattle.ct_partitions.specs.Check.{partition_fault}
 use Rattle.ct_partitions.specs.Product.{product_distance}
@@ -22,49 +20,26 @@ use Rattle.ct_build.specs.declared.step.Step.{Step}
 use Rattle.ct_build.specs.Build.{build_fault}
 use Rattle.ct_duals.specs.declared.fault.DualFault.{DualFault}
 use Rattle.ct_duals.specs.Check.{dual_fault}
-use Rattle.ct_build_files.specs.BuildDocument.{NamesOther}
 use Rattle.ct_build_files.specs.BuildKind.{build_refusal, step_reason}
-use Rattle.ct_partition_files.specs.Written.{AreIds}
-use Rattle.ct_partition_files.specs.ProductKind.{Ids, ids_of, factor_named, factors_named, first_length, is_wrong_first, is_wrong_second, wrong_of_pair, wrong_of_pairs, wrong_id, short_of, product_reason}
+use Rattle.ct_partition_files.specs.Pairs.{AreIds}
+use Rattle.ct_partition_files.specs.ProductKind.{Ids, ids_of, factor_named, factors_named, first_length, is_wrong_first, is_wrong_second, wrong_of_pair, wrong_of_pairs, wrong_id, short_of}
 use Rattle.ct_kind.specs.declared.evidence.Evidence.{Evidence}
 use Rattle.ct_kind.specs.declared.evidence.Evidence.TheVariants as evidence
 use Rattle.ct_kind.specs.declared.fault.SubmitFault.{SubmitFault}
 use Rattle.ct_kind.specs.declared.fault.SubmitFault.TheVariants as fault
 use Rattle.ct_kind.specs.Named.{NamedCode, is_known, first_missing, code_named, other_named, partition_named}
-use Rattle.ct_build.specs.declared.step.Step.TheVariants as step
-use Rattle.ct_files.specs.Kinds.{kind_of}
-use Rattle.ct_files.specs.Answers.{IsFieldsAnswer}
-use Rattle.ct_files.specs.Evidence.{read_of}
 use Rattle.ct_files.specs.Document.{DocumentValue, document_read_of}
 use Rattle.ct_files.specs.ByKind.{ids_of_parts, own_reason, evidence_reason}
 use Rattle.ct_files.specs.Inside.Written.{HasIds}
-use Rattle.ct_files.proofs.DocumentAnswers.{accepted}
+use Rattle.ct_files.proofs.Evidences.{read_without_limit-of_kind, read_of-without_limit}
 use Rattle.ct_files.proofs.Documents.{document_read_of-evidence}
 use Rattle.ct_files.proofs.RefusalTexts.{NamesById}
 
 -- ---- what is read
 
-other_id : (step : Step) (document : Data) (other : Option (List ℕ)) → NamesOther step document other → IfSome other (λ id. IsTrue (is_id id))
-other_id step document None h = tt
-other_id step document (Some id) h = h.1.1
-
--- evidence that a table states names pieces by ids
-stated-ids : (document : Data) (e : Evidence) → IsFieldsAnswer (kind_of e) document (Ok e) → HasIds e
-stated-ids document (evidence.Words e words) states = tt
-stated-ids document (evidence.Cosets e basis representatives) states = tt
-stated-ids document (evidence.Partition e between classes) states = tt
-stated-ids document (evidence.Product e pairs) states = states.fields.with_pairs.1
-stated-ids document (evidence.Build e step part other) states = (states.part_named.1, other_id step document other states.other_named)
-stated-ids document (evidence.Dual d) states = tt
-stated-ids document (evidence.JohnsonDual d) states = tt
-stated-ids document (evidence.Odd d m) states = tt
-stated-ids document (evidence.JohnsonLocal d) states = tt
-
--- so does the evidence of a document that is read
+-- the evidence of a document that is read names pieces by ids
 pub read-ids : (bytes : List ℕ) (d : DocumentValue) → document_read_of bytes ≡ Ok d → HasIds d.evidence
-read-ids bytes d read =
-    let a = accepted bytes d.evidence (document_read_of-evidence bytes d read) in
-    stated-ids a.document d.evidence a.states
+read-ids bytes d read = (read_without_limit-of_kind bytes d.evidence (read_of-without_limit bytes d.evidence (document_read_of-evidence bytes d read))).ids
 
 -- ---- the parts
 

@@ -1,5 +1,5 @@
 -- The texts of refused submissions have no line feed, where the ids that they tell are ids.
-use Rattle.std.proofs.Common.{◌≡◌, ℕ, zero, suc, Bool, true, false, cond, List, [], ◌∷◌, ◌++◌, Option, Some, None, option_map, IsTrue, refl}
+use Rattle.std.proofs.Common.{IsTrue, refl}
 use Rattle.std.specs.Prelude.{⊤, codes}
 use Rattle.ct_names.specs.Id.{is_id}
 use Rattle.ct_words.specs.declared.fault.CodeFault.{CodeFault}

@@ -10,7 +10,7 @@ use Rattle.ct_build.specs.Build.{FitsStated}
 use Rattle.ct_fields.specs.Steps.{◌>>=◌, ◌>>◌, check}
 use Rattle.ct_build_files.specs.Operation.{needs_other}
 use Rattle.ct_duals.specs.Dual.{IsDual}
-use Rattle.ct_dual_files.specs.OddDocument.{IsOddSize}
+use Rattle.ct_dual_files.specs.Fields.{IsOddSize}
 use Rattle.ct_fields.specs.Format.{format_of}
 use Rattle.ct_fields.specs.Document.{read_table}
 use Rattle.ct_files.specs.Kinds.{kind_in, evidence_by}

@@ -1,18 +1,18 @@
 -- The kinds of evidence documents: how a document names each, and what documents of the kind read as.
-use Rattle.std.specs.Prelude.{ℕ, if◌then◌else◌, List, Result, Ok, Err, codes}
+use Rattle.std.specs.Prelude.{ℕ, if◌then◌else◌, List, [], Result, Ok, Err, codes}
 use Rattle.toml.specs.Data.{Data}
-use Rattle.ct_fields.specs.Steps.{◌>>=◌}
 use Rattle.ct_fields.specs.Fields.{is_of_kind}
+use Rattle.ct_fields.specs.Schema.{Schema, read_by}
 use Rattle.ct_fields.specs.declared.fault.DocumentFault.{DocumentFault}
 use Rattle.ct_fields.specs.declared.fault.DocumentFault.TheVariants as fault
 use Rattle.ct_kind.specs.declared.evidence.Evidence.{Evidence}
 use Rattle.ct_kind.specs.declared.evidence.Evidence.TheVariants as evidence
-use Rattle.ct_word_files.specs.Words.{words_evidence_of}
-use Rattle.ct_word_files.specs.Cosets.{cosets_evidence_of}
-use Rattle.ct_partition_files.specs.Partition.{partition_evidence_of}
-use Rattle.ct_partition_files.specs.Product.{product_evidence_of}
-use Rattle.ct_build_files.specs.Build.{build_evidence_of}
-use Rattle.ct_dual_files.specs.Dual.{document_dual, johnson_dual_of, odd_of, local_dual_of}
+use Rattle.ct_word_files.specs.Words.{words_schema}
+use Rattle.ct_word_files.specs.Cosets.{cosets_schema}
+use Rattle.ct_partition_files.specs.Partition.{partition_schema}
+use Rattle.ct_partition_files.specs.Product.{product_schema}
+use Rattle.ct_build_files.specs.BuildSchema.{build_schema}
+use Rattle.ct_dual_files.specs.Dual.{dual_schema, johnson_dual_schema, odd_schema, local_dual_schema}
 use Rattle.ct_files.specs.declared.kind.Kind.{Kind}
 use Rattle.ct_files.specs.declared.kind.Kind.TheVariants.{Words, Cosets, Partition, Build, Product, Dual, JohnsonDual, Odd, JohnsonLocal}
 
@@ -54,38 +54,18 @@ kind_in document =
     else if is_of_kind (codes "jlocal") document then Ok JohnsonLocal
     else Err fault.Kind
 
--- the evidence of a document of kind dual
-abbrev pub dual_evidence_of : Data → Result Evidence DocumentFault
-dual_evidence_of document = do
-  d ← document_dual document
-  Ok (evidence.Dual d)
-
--- the evidence of a document of kind jdual
-abbrev pub johnson_dual_evidence_of : Data → Result Evidence DocumentFault
-johnson_dual_evidence_of document = do
-  d ← johnson_dual_of document
-  Ok (evidence.JohnsonDual d)
-
--- the evidence of a document of kind odd
-abbrev pub odd_evidence_of : Data → Result Evidence DocumentFault
-odd_evidence_of document = do
-  odd ← odd_of document
-  Ok (evidence.Odd odd.0 odd.1)
-
--- the evidence of a document of kind jlocal
-abbrev pub local_dual_evidence_of : Data → Result Evidence DocumentFault
-local_dual_evidence_of document = do
-  d ← local_dual_of document
-  Ok (evidence.JohnsonLocal d)
+-- the fields of a document of the kind, and what they state
+abbrev pub schema_of : Kind → Schema Evidence
+schema_of Words = words_schema
+schema_of Cosets = cosets_schema
+schema_of Partition = partition_schema
+schema_of Build = build_schema
+schema_of Product = product_schema
+schema_of Dual = dual_schema
+schema_of JohnsonDual = johnson_dual_schema
+schema_of Odd = odd_schema
+schema_of JohnsonLocal = local_dual_schema
 
 -- the evidence of a document of the kind, or the first fault of its fields
 abbrev pub evidence_by : Kind → Data → Result Evidence DocumentFault
-evidence_by Words = words_evidence_of
-evidence_by Cosets = cosets_evidence_of
-evidence_by Partition = partition_evidence_of
-evidence_by Build = build_evidence_of
-evidence_by Product = product_evidence_of
-evidence_by Dual = dual_evidence_of
-evidence_by JohnsonDual = johnson_dual_evidence_of
-evidence_by Odd = odd_evidence_of
-evidence_by JohnsonLocal = local_dual_evidence_of
+evidence_by kind document = read_by [] (schema_of kind) document

@@ -4,7 +4,6 @@ pub mod ByKind
 pub mod Checked
 pub mod PartNames
 pub mod Document
-pub mod DualAnswer
 pub mod Answers
 pub mod Lengths
 pub mod Refusal

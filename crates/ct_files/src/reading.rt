@@ -11,7 +11,7 @@ ghost use Rattle.ct_files.specs.Document.{value_of, document_of, document_withou
 use crate::contents::Document;
 use crate::kind::Kind;
 use ct_build_files::build_evidence;
-use ct_dual_files::{dual_of, johnson_dual_of, local_dual_of, odd_of};
+use ct_dual_files::{dual_evidence, johnson_dual_evidence, local_dual_evidence, odd_evidence};
 use ct_fields::{DocumentFault, MAX_DOCUMENT, cites_of, format_of, is_of_kind, read_table};
 use ct_kind::Evidence;
 use ct_partition_files::{partition_evidence, product_evidence};
@@ -63,22 +63,10 @@ fn evidence_by(alloc: Global, kind: Kind, document: &Value) -> Result<Evidence, 
         Kind::Partition => partition_evidence(alloc, document),
         Kind::Build => build_evidence(alloc, document),
         Kind::Product => product_evidence(alloc, document),
-        Kind::Dual => {
-            let dual = dual_of(alloc, document)?;
-            Ok(Evidence::Dual(dual))
-        }
-        Kind::JohnsonDual => {
-            let dual = johnson_dual_of(alloc, document)?;
-            Ok(Evidence::JohnsonDual(dual))
-        }
-        Kind::Odd => {
-            let (dual, m) = odd_of(alloc, document)?;
-            Ok(Evidence::Odd { dual, m })
-        }
-        Kind::JohnsonLocal => {
-            let dual = local_dual_of(alloc, document)?;
-            Ok(Evidence::JohnsonLocal(dual))
-        }
+        Kind::Dual => dual_evidence(alloc, document),
+        Kind::JohnsonDual => johnson_dual_evidence(alloc, document),
+        Kind::Odd => odd_evidence(alloc, document),
+        Kind::JohnsonLocal => local_dual_evidence(alloc, document),
     }
 }
 

@@ -27,7 +27,6 @@ use Rattle.ct_files.proofs.Lengths.{written-read}
 use Rattle.ct_files.proofs.WrittenDocuments.{nothing_cited, document-written}
 use Rattle.ct_fields.specs.Inside.Room.{IsSimpleTable, table_room}
 use Rattle.ct_fields.proofs.TextLengths.{document_length}
-use Rattle.ct_dual_files.specs.WrittenDuals.{dual_table, johnson_dual_table}
 use Rattle.ct_duals.specs.Dual.{degree_of}
 use Rattle.ct_words.specs.Numbers.{numbers_of}
 use Rattle.ct_finder.specs.Run.{End, run_dual, ones_dual}
@@ -66,7 +65,7 @@ with_multipliers e even c = record { entry = e; even = even; c = c; y = [] }
 number_fits : (n : ℕ) → n ≤ MAX_N → FitsSigned w64 (pos n)
 number_fits n h = fits_signed_from_abs w64 (pos n) (omega arith)
 
-dual_plain : (n d : ℕ) (even : Bool) (c : List ℤ) → n ≤ MAX_N → d ≤ MAX_N → All (FitsSigned w64) c → ArePlain (dual_table (with_multipliers (unrestricted n d) even c))
+dual_plain : (n d : ℕ) (even : Bool) (c : List ℤ) → n ≤ MAX_N → d ≤ MAX_N → All (FitsSigned w64) c → ArePlain (evidence_table (evidence.Dual (with_multipliers (unrestricted n d) even c)))
 unfolding key_text string_text encoding_of escaped needs_escape quotes_after
 dual_plain n d even c n_small d_small c_fits = (
   small (codes "c") refl,
@@ -100,7 +99,7 @@ dual_plain n d even c n_small d_small c_fits = (
   ),
 )
 
-johnson_dual_plain : (n d w : ℕ) (c : List ℤ) → n ≤ MAX_N → d ≤ MAX_N → w ≤ MAX_N → All (FitsSigned w64) c → ArePlain (johnson_dual_table (with_multipliers (constant_weight n d w) false c))
+johnson_dual_plain : (n d w : ℕ) (c : List ℤ) → n ≤ MAX_N → d ≤ MAX_N → w ≤ MAX_N → All (FitsSigned w64) c → ArePlain (evidence_table (evidence.JohnsonDual (with_multipliers (constant_weight n d w) false c)))
 unfolding key_text string_text encoding_of escaped needs_escape quotes_after
 johnson_dual_plain n d w c n_small d_small w_small c_fits = (
   small (codes "c") refl,
@@ -158,9 +157,9 @@ plain_document : (n d : ℕ) (even : Bool) (c : List ℤ) → IsDual (with_multi
 plain_document n d even c form =
     let limits = entry_limits (unrestricted n d) form.entry in
     let own = with_multipliers (unrestricted n d) even c in
-    let b = bytes_of (dual_table own)
+    let b = bytes_of (evidence_table (evidence.Dual own))
     (dual_plain n d even c limits.length_to limits.distance_to (all_fit c form.multipliers form.signed.0)) in
-    (b.bytes, written-document (evidence.Dual own) (dual_table own) b.bytes (form, refl) tt refl b.written b.room)
+    (b.bytes, written-document (evidence.Dual own) (evidence_table (evidence.Dual own)) b.bytes (form, refl) tt refl b.written b.room)
 
 weighted_document : (n d w : ℕ) (c : List ℤ) → IsDual (with_multipliers (constant_weight n d w) false c)
     → (document : List ℕ) × (document_read_of document ≡ Ok (without_cites (evidence.JohnsonDual (with_multipliers (constant_weight n d w) false c))))
@@ -169,9 +168,9 @@ weighted_document n d w c form =
     let weight = limits.weight in
     let length_to = limits.length_to in
     let own = with_multipliers (constant_weight n d w) false c in
-    let b = bytes_of (johnson_dual_table own)
+    let b = bytes_of (evidence_table (evidence.JohnsonDual own))
     (johnson_dual_plain n d w c limits.length_to limits.distance_to (omega (arith, weight.2)) (all_fit c form.multipliers form.signed.0)) in
-    (b.bytes, written-document (evidence.JohnsonDual own) (johnson_dual_table own) b.bytes (form, refl, refl) tt refl b.written b.room)
+    (b.bytes, written-document (evidence.JohnsonDual own) (evidence_table (evidence.JohnsonDual own)) b.bytes (form, refl, refl) tt refl b.written b.room)
 
 -- each dual with a document that is shown has an answer
 answer_of : (e : Entry) (d : Dual) → IsShown (stop_for e) d → (document : List ℕ) × (document_read_of document ≡ Ok (without_cites (dual_evidence d.entry.w d)))

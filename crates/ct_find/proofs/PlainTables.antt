@@ -19,7 +19,7 @@ use Rattle.toml.proofs.ReadBack.{parse_document-printed}
 use Rattle.std.specs.Prelude.{Some, IsUtf8}
 use Rattle.toml.specs.Text.{IsValueText, IsItemsText, IsLinesText, IsDocumentText, breaks_lines, before_item, after_item, array_end, is_section, section, sections, pairs}
 use Rattle.toml.specs.View.{items_of}
-use Rattle.ct_dual_files.specs.WrittenDuals.{integer_list}
+use Rattle.ct_dual_files.specs.Fields.{integer_list}
 
 -- a value that is a list of whole numbers, a whole number, a mark or a word, each of which has a text in ASCII
 pub data Plain : Data → Type 0 where

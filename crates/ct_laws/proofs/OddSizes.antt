@@ -38,7 +38,7 @@ use Rattle.ct_kind.specs.Named.{NamedCode}
 use Rattle.ct_kind.specs.declared.fault.SubmitFault.TheVariants as fault
 use Rattle.ct_kind.proofs.Stating.{option_map-none}
 use Rattle.ct_dual_files.specs.DualKind.{with_at_zero, odd_support}
-use Rattle.ct_dual_files.specs.OddDocument.{IsOddSize}
+use Rattle.ct_dual_files.specs.Fields.{IsOddSize}
 use Rattle.ct_piece.specs.Piece.{PieceValue}
 use Rattle.ct_piece.specs.Standing.{AreStanding}
 use Rattle.ct_piece.specs.Supports.{supports_of}

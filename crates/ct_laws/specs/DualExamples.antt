@@ -5,7 +5,7 @@ use Rattle.ct_words.specs.Entry.{unrestricted, constant_weight}
 use Rattle.ct_fields.specs.Written.{put, entry_table}
 use Rattle.ct_fields.specs.declared.field.FieldName.TheVariants as name
 use Rattle.ct_duals.specs.declared.dual.Dual.{Dual}
-use Rattle.ct_dual_files.specs.WrittenDuals.{integer_list, pair_list}
+use Rattle.ct_dual_files.specs.Fields.{integer_list, pair_list}
 
 -- a dual for A(13,6), of even distances alone, that rests on two upper bounds
 abbrev pub thirteen_six : Dual

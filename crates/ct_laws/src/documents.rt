@@ -1,53 +1,60 @@
 //! Which documents are accepted as which evidence, and where each fault comes.
-ghost use Rattle.std.specs.Prelude.{◌≡◌, ◌↔◌, ℕ, ◌<◌, ◌≤◌, List, length, Option, Result, Ok, Err};
-ghost use Rattle.toml.specs.Data.{Data};
-ghost use Rattle.ct_build.specs.declared.step.Step.{Step};
+ghost use Rattle.std.specs.Prelude.{◌≡◌, ◌↔◌, ℕ, ◌<◌, ◌≤◌, ◌^◌, List, [], length, All, Option, option_map, Result, Ok, Err};
+ghost use Rattle.toml.specs.Data.{Data, Members, table};
+ghost use Rattle.ct_words.specs.Text.{word_of, word_text};
 ghost use Rattle.ct_words.specs.declared.entry.Entry.{Entry};
-ghost use Rattle.ct_duals.specs.declared.dual.Dual.{Dual};
+ghost use Rattle.ct_build.specs.declared.step.Step.{Step};
 ghost use Rattle.ct_fields.specs.declared.document.TheConstants.{MAX_DOCUMENT};
 ghost use Rattle.ct_kind.specs.declared.evidence.Evidence.{Evidence};
-ghost use Rattle.ct_kind.specs.declared.evidence.Evidence.TheVariants as evidence;
 ghost use Rattle.ct_fields.specs.declared.fault.DocumentFault.{DocumentFault};
 ghost use Rattle.ct_fields.specs.declared.fault.DocumentFault.TheVariants.{Bytes, NotToml, Kind};
-ghost use Rattle.ct_files.specs.Evidence.{read_of};
+ghost use Rattle.ct_files.specs.Evidence.{IsSound, read_of};
 ghost use Rattle.ct_files.specs.declared.kind.Kind as documents;
-ghost use Rattle.ct_files.specs.Kinds.{kind_text};
-ghost use Rattle.ct_files.specs.Answers.{IsAnswer, IsOfNoKind};
+ghost use Rattle.ct_files.specs.Kinds.{kind_of, kind_text, schema_of, evidence_by};
+ghost use Rattle.ct_files.specs.Answers.{IsAnswer, IsOfNoKind, Accepts};
 ghost use Rattle.ct_files.specs.Document.{DocumentValue, document_read_of, evidence_part, AcceptsDocument};
 ghost use Rattle.ct_fields.specs.Tables.{IsDocument, IsOfKind};
-ghost use Rattle.ct_word_files.specs.WordsDocument.{AcceptsWords};
-ghost use Rattle.ct_word_files.specs.CosetsDocument.{AcceptsCosets};
-ghost use Rattle.ct_partition_files.specs.PartitionDocument.{AcceptsPartition};
-ghost use Rattle.ct_partition_files.specs.ProductDocument.{AcceptsProduct};
-ghost use Rattle.ct_build_files.specs.BuildDocument.{AcceptsBuild};
-ghost use Rattle.ct_files.specs.DualAnswer.{AcceptsDual, AcceptsJohnsonDual, AcceptsOddDual, AcceptsLocalDual};
+ghost use Rattle.ct_fields.specs.Schema.{IsAnswerBy};
+ghost use Rattle.ct_word_files.specs.Words.{words_of_texts, IsWordsOf};
+ghost use Rattle.ct_word_files.specs.Cosets.{cosets_of_texts, IsCosetsOf};
+ghost use Rattle.ct_partition_files.specs.Partition.{partition_of_lists, IsPartitionOf};
+ghost use Rattle.ct_build_files.specs.BuildFields.{digits_of};
+ghost use Rattle.ct_build_files.specs.BuildSchema.{build_of};
+ghost use Rattle.ct_build_files.specs.BuildAnswer.{IsTextAnswer};
+ghost use Rattle.ct_build_files.specs.WrittenBuild.{digits_text};
+ghost use Rattle.ct_files.specs.Inside.Written.{evidence_table, HasIds};
 
-/// Bytes are accepted as these words for this entry exactly where they are at most `MAX_DOCUMENT`, are UTF-8 and write
-/// by the grammar of TOML 1.1 a table of kind `words` that has n, d and, where there is one, w of the entry, each in its
-/// range, the texts of the words, each of length n, at `words`, and no other key, and where the words are 1 to
-/// `MAX_WORDS`; and so for cosets, whose table has the texts of the basis words and of the representatives, and for a
-/// build, whose table has the text of the step's operation, the fields of the step, which fits the entry, the id of the
-/// part and, exactly where the step needs another code, that of the other piece. For a partition the table has the distance
-/// between classes and the texts of the words of each class; for a product the ids of each pair. For a dual the table has its mark, its
-/// multipliers and its allowances, of which mark and allowances may be left out; for an odd the same and its number of words, odd
-/// and from 3 to `MAX_ODD`; for a jdual its weight and its multipliers, and for a jlocal with these its allowances, which may be left out.
+/// Bytes are accepted as an evidence exactly if they are at most `MAX_DOCUMENT`, are UTF-8 and write by the grammar of TOML 1.1 a table of its
+/// kind, whose format is right, whose fields have the values that the schema of the kind asks and state the evidence, whose cites are right, and
+/// which has no other key.
 pub fn accepted_documents()
-    ensures words { (bytes : List ℕ) (e : Entry) (words : List ℕ) →
-        (read_of bytes ≡ Ok (evidence.Words e words)) ↔ AcceptsWords bytes e words }
-    ensures cosets { (bytes : List ℕ) (e : Entry) (basis representatives : List ℕ) →
-        (read_of bytes ≡ Ok (evidence.Cosets e basis representatives)) ↔ AcceptsCosets bytes e basis representatives }
-    ensures partition { (bytes : List ℕ) (e : Entry) (between : ℕ) (classes : List (List ℕ)) →
-        (read_of bytes ≡ Ok (evidence.Partition e between classes)) ↔ AcceptsPartition bytes e between classes }
-    ensures product { (bytes : List ℕ) (e : Entry) (pairs : List (List ℕ × List ℕ)) →
-        (read_of bytes ≡ Ok (evidence.Product e pairs)) ↔ AcceptsProduct bytes e pairs }
-    ensures build { (bytes : List ℕ) (e : Entry) (step : Step) (part : List ℕ) (other : Option (List ℕ)) →
-        (read_of bytes ≡ Ok (evidence.Build e step part other)) ↔ AcceptsBuild bytes e step part other }
-    ensures dual { (bytes : List ℕ) (d : Dual) → (read_of bytes ≡ Ok (evidence.Dual d)) ↔ AcceptsDual bytes d }
-    ensures johnson_dual { (bytes : List ℕ) (d : Dual) →
-        (read_of bytes ≡ Ok (evidence.JohnsonDual d)) ↔ AcceptsJohnsonDual bytes d }
-    ensures odd { (bytes : List ℕ) (d : Dual) (m : ℕ) → (read_of bytes ≡ Ok (evidence.Odd d m)) ↔ AcceptsOddDual bytes d m }
-    ensures local_dual { (bytes : List ℕ) (d : Dual) →
-        (read_of bytes ≡ Ok (evidence.JohnsonLocal d)) ↔ AcceptsLocalDual bytes d }
+    ensures evidence { (bytes : List ℕ) (e : Evidence) → (read_of bytes ≡ Ok e) ↔ Accepts bytes e }
+{}
+
+/// Where each answer comes for the fields of a table of a kind: exactly where the schema of the kind says. What is written at the fields of
+/// an evidence, whose forms, ranges and counts are those of its kind, reads as it.
+pub fn answers_to_fields()
+    ensures answers { (kind : documents.Kind) (members : Members) (answer : Result Evidence DocumentFault) →
+        (evidence_by kind (table members) ≡ answer) ↔ IsAnswerBy [] (schema_of kind) (table members) answer }
+    ensures read_back { (e : Evidence) → IsSound e → HasIds e → evidence_by (kind_of e) (table (evidence_table e)) ≡ Ok e }
+{}
+
+/// What the texts of a document state, once its fields, its cites and its keys are right: the words that they write; the fault of the first text
+/// that writes none of the length; or, if they all do, that of a wrong count. Of a build, the step of the word or of the digits that its text
+/// writes, or the fault of a text that writes none.
+pub fn stated_texts()
+    ensures words { (e : Entry) (texts : List (List ℕ)) (answer : Result Evidence DocumentFault) →
+        (words_of_texts e texts ≡ answer) ↔ IsWordsOf e texts answer }
+    ensures cosets { (e : Entry) (basis representatives : List (List ℕ)) (answer : Result Evidence DocumentFault) →
+        (cosets_of_texts e basis representatives ≡ answer) ↔ IsCosetsOf e basis representatives answer }
+    ensures partition { (e : Entry) (between : ℕ) (lists : List (List (List ℕ))) (answer : Result Evidence DocumentFault) →
+        (partition_of_lists e between lists ≡ answer) ↔ IsPartitionOf e between lists answer }
+    ensures word { (e : Entry) (make : ℕ → Step) (text part : List ℕ) (other : Option (List ℕ)) (answer : Result Evidence DocumentFault) →
+        (build_of e (option_map make (word_of e.n text)) part other ≡ answer)
+        ↔ IsTextAnswer (word_text e.n) (λ x. x < 2 ^ e.n) text make e part other answer }
+    ensures digits { (e : Entry) (count : ℕ) (make : List ℕ → Step) (text part : List ℕ) (other : Option (List ℕ)) (answer : Result Evidence DocumentFault) →
+        (build_of e (option_map make (digits_of count text)) part other ≡ answer)
+        ↔ IsTextAnswer digits_text (λ ds. (length ds ≡ count) × All (λ a. a < 2) ds) text make e part other answer }
 {}
 
 /// Where bytes are refused that are too many, or that write no table.

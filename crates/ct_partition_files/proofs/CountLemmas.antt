@@ -11,7 +11,7 @@ use Rattle.ct_partitions.specs.Check.{counted, wrong_count}
 use Rattle.ct_fields.specs.declared.fault.DocumentFault.{DocumentFault}
 use Rattle.ct_fields.specs.declared.fault.DocumentFault.TheVariants.{Size}
 use Rattle.ct_partition_files.specs.Lists.{refused}
-use Rattle.ct_partition_files.specs.PartitionDocument.{IsWrongClassCount, AreCountedClasses}
+use Rattle.ct_partition_files.specs.Partition.{IsWrongClassCount, AreCountedClasses}
 
 -- a count that is taken is none that is wrong, and the fault of one that is is its own
 pub refused-ok : (count : Option ℕ) (x : Unit {0}) → refused count ≡ Ok x → count ≡ None

@@ -1,14 +1,14 @@
 mod ListLemmas
 mod ReadClasses
-mod EvidenceSteps
+mod ReadFields
+mod Classes
 mod PlaceLemmas
 pub mod CountLemmas
 mod PairLemmas
 mod WrittenLists
 pub mod PartitionAnswers
-pub mod ProductAnswers
-pub mod WrittenPartitions
-pub mod Rooms
+pub mod PartitionSchema
+pub mod ProductSchema
 pub mod PartitionKind
 pub mod ProductKind
 pub mod ProductChecks

@@ -1,23 +1,23 @@
 -- Lists of texts, and the classes of words that they write, where they are read.
-use Rattle.std.proofs.Common.{◌≡◌, ℕ, ◌+◌, ◌^◌, ◌<◌, List, [], ◌∷◌, ◌++◌, length, map, Some, Result, Ok, Err, refl, sym, ap, ◌∙◌, subst}
+use Rattle.std.proofs.Common.{◌≡◌, ℕ, ◌+◌, ◌^◌, ◌<◌, true, List, [], ◌∷◌, ◌++◌, length, map, Some, Result, Ok, Err, refl, sym, ap, ◌∙◌, subst}
 use Rattle.std.specs.List.{AllByRecursion}
 use Rattle.std.proofs.lemmas.Option.{option_and_then_some}
-use Rattle.toml.specs.Data.{Data, string, integer, float, boolean, datetime, array, table, Items, no_items, item, get}
+use Rattle.toml.specs.Data.{Data, string, integer, float, boolean, datetime, array, table, Items, no_items, item}
 use Rattle.toml.specs.View.{items_of}
 use Rattle.ct_words.specs.Text.{word_text}
 use Rattle.ct_classes.specs.Partition.{words_of_classes}
-use Rattle.ct_fields.specs.Field.{field_text}
 use Rattle.ct_fields.specs.Steps.{◌>>=◌}
 use Rattle.ct_fields.specs.Fields.{texts_in, words_from}
 use Rattle.ct_fields.specs.Tables.{IsFirstWrong}
 use Rattle.ct_fields.specs.declared.field.FieldName.{FieldName}
 use Rattle.ct_fields.specs.declared.fault.DocumentFault.{DocumentFault}
-use Rattle.ct_fields.specs.declared.fault.DocumentFault.TheVariants.{Field, Digits}
-use Rattle.ct_fields.proofs.StepLemmas.{bind-ok, bind-at_err, ok_or-ok}
+use Rattle.ct_fields.specs.declared.fault.DocumentFault.TheVariants.{Digits}
+use Rattle.ct_fields.proofs.StepLemmas.{bind-ok, bind-at_err}
 use Rattle.ct_fields.proofs.FieldLemmas.{texts_in-some, texts_of-items_of}
 use Rattle.ct_fields.proofs.WordsLemmas.{words_from-ok, words_from-from, words_from-err, words_from-wrong, both_words, words_from-append}
-use Rattle.ct_partition_files.specs.Lists.{text_lists_of, text_lists_in, text_lists_field, classes_from}
-use Rattle.ct_partition_files.specs.PartitionDocument.{HasTextLists, all_texts, class_texts}
+use Rattle.ct_fields.proofs.LastLemmas.{is_of_a_kind}
+use Rattle.ct_fields.proofs.SchemaLemmas.{IsForm}
+use Rattle.ct_partition_files.specs.Lists.{text_lists_of, text_lists_in, text_lists_form, all_texts, class_texts, classes_from}
 
 -- lists of texts that are read are the items, and they are read from them
 text_lists_of-some : (ds : Items) (lists : List (List (List ℕ))) → text_lists_of ds ≡ Some lists
@@ -44,16 +44,12 @@ text_lists_in-some (boolean b) lists e = absurd cc
 text_lists_in-some (datetime t) lists e = absurd cc
 text_lists_in-some (table ms) lists e = absurd cc
 
--- lists of texts are read exactly where the field is a list of them
-pub text_lists_field-ok : (name : FieldName) (document : Data) (lists : List (List (List ℕ))) → text_lists_field name document ≡ Ok lists
-    → HasTextLists name document lists
-text_lists_field-ok name document lists e =
-    option_and_then_some text_lists_in (get (field_text name) document) lists (ok_or-ok _ (Field name) lists e)
-    (λ d found h. found ∙ ap Some (text_lists_in-some d lists h))
-
-pub text_lists_field-from : (name : FieldName) (document : Data) (lists : List (List (List ℕ))) → HasTextLists name document lists
-    → text_lists_field name document ≡ Ok lists
-text_lists_field-from name document lists h = rw (h, text_lists_of-items lists) refl
+-- so a list of lists of texts is a form
+pub text_lists-form : (name : FieldName) → is_of_a_kind name ≡ true → IsForm (text_lists_form name)
+text_lists-form name own = record {
+  own = own;
+  reads = record { some = λ d lists e. (text_lists_in-some d lists e, refl); from = λ lists right. text_lists_of-items lists };
+}
 
 -- what holds of two lists holds of both, one after the other, and the other way round
 on_both : (P : ℕ → Type 0) (xs ys : List ℕ) → AllByRecursion P xs → AllByRecursion P ys → AllByRecursion P (xs ++ ys)

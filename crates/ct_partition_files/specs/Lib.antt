@@ -1,10 +1,7 @@
 pub mod Lists
 pub mod Partition
-pub mod PartitionDocument
 pub mod Pairs
 pub mod Product
-pub mod ProductDocument
-pub mod Written
 pub mod PartitionKind
 pub mod ProductKind
 pub mod PartitionFaultText

@@ -1,13 +1,18 @@
 -- Lists of lists of texts in documents, and the classes of words that they write.
-use Rattle.std.specs.Prelude.{ℕ, ◌+◌, List, [], ◌∷◌, length, map, Option, Some, None, Result, Ok, Err, Vec}
+use Rattle.std.specs.Prelude.{ℕ, ◌+◌, true, List, [], ◌∷◌, length, map, Option, Some, None, Result, Ok, Err, Vec}
+use Rattle.std.specs.List.{flat_map}
 use Rattle.std.specs.Borrow.{Bor}
 use Rattle.std.specs.Option.{option_and_then}
 use Rattle.std.specs.declared.alloc.Global.{Global}
-use Rattle.toml.specs.Data.{Data, array, Items, no_items, item}
+use Rattle.toml.specs.Data.{Data, string, array, Items, no_items, item}
+use Rattle.ct_words.specs.Text.{word_text}
 use Rattle.ct_partitions.specs.Check.{wrong_count}
 use Rattle.ct_fields.specs.Reads.{texts_behind}
 use Rattle.ct_fields.specs.Steps.{◌>>=◌}
-use Rattle.ct_fields.specs.Fields.{field, texts_in, words_from}
+use Rattle.ct_fields.specs.Fields.{texts_in, words_from}
+use Rattle.ct_fields.specs.Forms.{list_data}
+use Rattle.ct_fields.specs.Schema.{Form}
+use Rattle.ct_fields.specs.Written.{word_texts}
 use Rattle.ct_fields.specs.declared.field.FieldName.{FieldName}
 use Rattle.ct_fields.specs.declared.fault.DocumentFault.{DocumentFault}
 use Rattle.ct_fields.specs.declared.fault.DocumentFault.TheVariants.{Size}
@@ -26,9 +31,21 @@ abbrev pub text_lists_in : Data → Option (List (List (List ℕ)))
 text_lists_in (array ds) = text_lists_of ds
 text_lists_in _ = None
 
--- the lists of texts of the field, a list of lists of texts
-abbrev pub text_lists_field : FieldName → Data → Result (List (List (List ℕ))) DocumentFault
-text_lists_field name document = field text_lists_in name document
+-- a list of lists of texts
+abbrev pub text_lists_form : FieldName → Form (List (List (List ℕ)))
+text_lists_form field = record { name = field; value = text_lists_in; written = list_data (list_data string); is_right = λ lists. true }
+
+-- the list of the lists of the texts of words of length n
+abbrev pub class_list : ℕ → List (List ℕ) → Data
+class_list n classes = list_data (word_texts n) classes
+
+-- the texts of all lists, one list after the other
+abbrev pub all_texts : List (List (List ℕ)) → List (List ℕ)
+all_texts lists = flat_map (λ texts. texts) lists
+
+-- the texts of words of length n, class by class
+abbrev pub class_texts : ℕ → List (List ℕ) → List (List (List ℕ))
+class_texts n classes = map (λ words. map (word_text n) words) classes
 
 -- the classes of words of length n that the lists of texts write
 -- (the fault of the first text that writes none, where the texts are counted from place through all lists)

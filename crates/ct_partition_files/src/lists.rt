@@ -5,7 +5,8 @@ ghost use Rattle.ct_words.specs.declared.limits.TheConstants.{MAX_N};
 ghost use Rattle.ct_classes.specs.Partition.{word_lists};
 ghost use Rattle.ct_fields.specs.Reads.{Reads, texts_behind};
 ghost use Rattle.ct_fields.specs.Fields.{texts_in};
-ghost use Rattle.ct_partition_files.specs.Lists.{lists_behind, text_lists_of, text_lists_field, classes_from};
+ghost use Rattle.ct_fields.specs.Schema.{needed};
+ghost use Rattle.ct_partition_files.specs.Lists.{lists_behind, text_lists_of, text_lists_form, classes_from};
 
 use ct_fields::{DocumentFault, FieldName, texts_of, words_from};
 use ct_words::Word;
@@ -18,7 +19,7 @@ pub(crate) fn text_lists_field<'a>(
     document: &'a Value,
     name: FieldName,
 ) -> Result<Vec<Vec<&'a str>>, DocumentFault>
-    ensures { Reads (λ v. lists_behind v.items) result (text_lists_field name (view document.now)) }
+    ensures { Reads (λ v. lists_behind v.items) result (needed (text_lists_form name) (view document.now)) }
 {
     match document.get(name.text()) {
         Some(Value::Array(values)) => {

@@ -3,7 +3,8 @@ ghost use Rattle.std.specs.Prelude.{◌≡◌, IfOk, option_map};
 ghost use Rattle.toml.specs.Data.{array};
 ghost use Rattle.toml.specs.View.{view, items_view};
 ghost use Rattle.ct_fields.specs.Reads.{Reads};
-ghost use Rattle.ct_partition_files.specs.Pairs.{is_pair_count, pairs_in, pairs_field};
+ghost use Rattle.ct_fields.specs.Schema.{needed};
+ghost use Rattle.ct_partition_files.specs.Pairs.{is_pair_count, pairs_in, pairs_form};
 
 use ct_fields::{DocumentFault, FieldName, all_of};
 use ct_names::Id;
@@ -11,13 +12,13 @@ use ct_words::MAX_N;
 use std::alloc::{AllocError, Global};
 use toml::Value;
 
-/// The pairs of ids of a product of the weight: exactly one where it has none, else at most `MAX_N + 1`.
+/// The pairs of ids of a product of the weight: exactly one if it has none, else at most `MAX_N + 1`.
 pub(crate) fn pairs_field(
     alloc: Global,
     w: Option<u32>,
     document: &Value,
 ) -> Result<Vec<(Id, Id)>, DocumentFault>
-    ensures { Reads (λ v. v.items) result (pairs_field w (view document.now)) }
+    ensures { Reads (λ v. v.items) result (needed (pairs_form w) (view document.now)) }
 {
     match document.get(FieldName::Pairs.text()) {
         Some(Value::Array(values)) => {

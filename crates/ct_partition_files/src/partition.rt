@@ -1,14 +1,18 @@
 //! The kind partition: the words of each class, one by one.
-ghost use Rattle.std.specs.Prelude.{◌≡◌, ◌≤◌};
+ghost use Rattle.std.specs.Prelude.{◌≡◌, ◌≤◌, []};
 ghost use Rattle.toml.specs.View.{view};
 ghost use Rattle.ct_words.specs.declared.limits.TheConstants.{MAX_N};
 ghost use Rattle.ct_classes.specs.Partition.{word_lists};
 ghost use Rattle.ct_fields.specs.Reads.{Reads};
 ghost use Rattle.ct_partition_files.specs.Lists.{lists_behind, class_count};
-ghost use Rattle.ct_partition_files.specs.Partition.{partition_of_lists, partition_evidence_of};
+ghost use Rattle.ct_fields.specs.Schema.{read_by};
+ghost use Rattle.ct_partition_files.specs.Partition.{partition_of_lists, partition_schema};
 
 use crate::lists::{classes_from, text_lists_field};
-use ct_fields::{DocumentFault, FieldName, last_fields, number_field, stated_entry};
+use ct_fields::{
+    DocumentFault, FieldName, distance_field, has_field, last_fields, length_field, number_field,
+    weight_field,
+};
 use ct_kind::{Evidence, WordLists};
 use ct_partitions::wrong_count;
 use ct_words::{Entry, Word};
@@ -48,12 +52,14 @@ fn partition_of_lists(
 }
 
 /// The evidence that the document states, of kind partition.
-#[tactic(auto, unfolding(crate::specs::Partition::partition_evidence_of))]
 pub fn partition_evidence(alloc: Global, document: &Value) -> Result<Evidence, DocumentFault>
-    ensures { Reads (λ evidence. evidence) result (partition_evidence_of (view document.now)) }
+    ensures { Reads (λ evidence. evidence) result (read_by [] partition_schema (view document.now)) }
 {
-    let entry = stated_entry(document)?;
-    let between = number_field(document, FieldName::D1, 1, entry.d)?;
+    let n = length_field(document)?;
+    let d = distance_field(has_field(document, FieldName::W), document)?;
+    let w = weight_field(n, document)?;
+    let entry = Entry { n, d, w };
+    let between = number_field(document, FieldName::D1, 1, d)?;
     let lists = text_lists_field(alloc, document, FieldName::Classes)?;
     let names = [
         FieldName::N,

@@ -1,7 +1,7 @@
 pub mod WordsAnswers
 pub mod CosetsAnswers
-pub mod WrittenWords
-pub mod WordRooms
+pub mod WordsSchema
+pub mod CosetsSchema
 pub mod WordsKind
 pub mod CosetsKind
 mod WordSteps

@@ -1,11 +1,14 @@
 //! The kind cosets: a basis and representatives.
-ghost use Rattle.std.specs.Prelude.{◌≡◌, ◌+◌, ◌≤◌, ◌^◌, ◌<◌, length};
+ghost use Rattle.std.specs.Prelude.{◌≡◌, ◌+◌, ◌≤◌, ◌^◌, ◌<◌, [], length};
 ghost use Rattle.toml.specs.View.{view};
 ghost use Rattle.ct_words.specs.declared.limits.TheConstants.{MAX_N};
 ghost use Rattle.ct_fields.specs.Reads.{Reads, texts_behind};
-ghost use Rattle.ct_word_files.specs.Cosets.{coset_count, cosets_of_texts, cosets_evidence_of};
+ghost use Rattle.ct_fields.specs.Schema.{read_by};
+ghost use Rattle.ct_word_files.specs.Cosets.{coset_count, cosets_of_texts, cosets_schema};
 
-use ct_fields::{DocumentFault, FieldName, last_fields, plain_entry, texts_field, words_from};
+use ct_fields::{
+    DocumentFault, FieldName, last_fields, length_field, number_field, texts_field, words_from,
+};
 use ct_kind::Evidence;
 use ct_words::{Entry, Listed, MAX_N, MAX_REPRESENTATIVES, Word};
 use std::alloc::Global;
@@ -51,11 +54,12 @@ fn cosets_of_texts(
 }
 
 /// The evidence that the document states, of kind cosets.
-#[tactic(auto, unfolding(crate::specs::Cosets::cosets_evidence_of))]
 pub fn cosets_evidence(alloc: Global, document: &Value) -> Result<Evidence, DocumentFault>
-    ensures { Reads (λ evidence. evidence) result (cosets_evidence_of (view document.now)) }
+    ensures { Reads (λ evidence. evidence) result (read_by [] cosets_schema (view document.now)) }
 {
-    let entry = plain_entry(document)?;
+    let n = length_field(document)?;
+    let d = number_field(document, FieldName::D, 3, MAX_N)?;
+    let entry = Entry { n, d, w: None };
     let basis_texts = texts_field(alloc, document, FieldName::Basis)?;
     let texts = texts_field(alloc, document, FieldName::Representatives)?;
     let names = [

@@ -1,11 +1,15 @@
 //! The kind words: the words of a code, one by one.
-ghost use Rattle.std.specs.Prelude.{◌≡◌, ◌≤◌, ◌^◌, ◌<◌, length};
+ghost use Rattle.std.specs.Prelude.{◌≡◌, ◌≤◌, ◌^◌, ◌<◌, [], length};
 ghost use Rattle.toml.specs.View.{view};
 ghost use Rattle.ct_words.specs.declared.limits.TheConstants.{MAX_N};
 ghost use Rattle.ct_fields.specs.Reads.{Reads, texts_behind};
-ghost use Rattle.ct_word_files.specs.Words.{word_count, words_of_texts, words_evidence_of};
+ghost use Rattle.ct_fields.specs.Schema.{read_by};
+ghost use Rattle.ct_word_files.specs.Words.{word_count, words_of_texts, words_schema};
 
-use ct_fields::{DocumentFault, FieldName, last_fields, stated_entry, texts_field, words_from};
+use ct_fields::{
+    DocumentFault, FieldName, distance_field, has_field, last_fields, length_field, texts_field,
+    weight_field, words_from,
+};
 use ct_kind::Evidence;
 use ct_words::{Entry, Listed, MAX_WORDS, Word};
 use std::alloc::Global;
@@ -36,11 +40,13 @@ fn words_of_texts(alloc: Global, entry: Entry, texts: &[&str]) -> Result<Evidenc
 }
 
 /// The evidence that the document states, of kind words.
-#[tactic(auto, unfolding(crate::specs::Words::words_evidence_of))]
 pub fn words_evidence(alloc: Global, document: &Value) -> Result<Evidence, DocumentFault>
-    ensures { Reads (λ evidence. evidence) result (words_evidence_of (view document.now)) }
+    ensures { Reads (λ evidence. evidence) result (read_by [] words_schema (view document.now)) }
 {
-    let entry = stated_entry(document)?;
+    let n = length_field(document)?;
+    let d = distance_field(has_field(document, FieldName::W), document)?;
+    let w = weight_field(n, document)?;
+    let entry = Entry { n, d, w };
     let texts = texts_field(alloc, document, FieldName::Words)?;
     let names = [FieldName::N, FieldName::D, FieldName::W, FieldName::Words];
     last_fields(document, &names)?;

@@ -1,8 +1,10 @@
 //! The tables of words and of cosets.
-ghost use Rattle.std.specs.Prelude.{◌≡◌, ◌^◌, ◌<◌, ◌≤◌, All, IfOk};
+ghost use Rattle.std.specs.Prelude.{◌≡◌, ◌^◌, ◌<◌, ◌≤◌, All, IfOk, codes};
 ghost use Rattle.toml.specs.View.{table_view};
 ghost use Rattle.ct_words.specs.declared.limits.TheConstants.{MAX_N};
-ghost use Rattle.ct_word_files.specs.WrittenWords.{words_table, cosets_table};
+ghost use Rattle.ct_fields.specs.WrittenSchema.{written_table};
+ghost use Rattle.ct_word_files.specs.Words.{words_fields};
+ghost use Rattle.ct_word_files.specs.Cosets.{cosets_fields};
 
 use ct_fields::{FieldName, entry_table, put_weight, put_words};
 use ct_words::{Entry, Word};
@@ -13,7 +15,7 @@ use toml::Table;
 pub fn words_table(alloc: Global, entry: Entry, words: &[Word]) -> Result<Table, AllocError>
     requires room { entry.n ≤ MAX_N }
     requires words { All (λ x. x < 2 ^ entry.n) words.now }
-    ensures { IfOk result (λ table. table_view table ≡ words_table entry words.now) }
+    ensures { IfOk result (λ table. table_view table ≡ written_table (codes "words") (words_fields entry words.now)) }
 {
     let mut table = entry_table(alloc, "words", entry.n, entry.d)?;
     put_weight(alloc, &mut table, entry.w)?;
@@ -31,7 +33,7 @@ pub fn cosets_table(
     requires room { entry.n ≤ MAX_N }
     requires basis { All (λ x. x < 2 ^ entry.n) basis.now }
     requires representatives { All (λ x. x < 2 ^ entry.n) representatives.now }
-    ensures { IfOk result (λ table. table_view table ≡ cosets_table entry basis.now representatives.now) }
+    ensures { IfOk result (λ table. table_view table ≡ written_table (codes "cosets") (cosets_fields entry basis.now representatives.now)) }
 {
     let mut table = entry_table(alloc, "cosets", entry.n, entry.d)?;
     put_words(alloc, &mut table, FieldName::Basis, entry.n, basis)?;

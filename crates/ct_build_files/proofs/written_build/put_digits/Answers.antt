@@ -4,8 +4,7 @@ use Rattle.toml.specs.Data.{string}
 use Rattle.toml.specs.View.{view, table_view}
 use Rattle.ct_fields.specs.declared.field.FieldName.TheVariants.{Digits}
 use Rattle.ct_build_files.specs.WrittenBuild.{digits_text}
-use Rattle.ct_build_files.proofs.PutFields.{put_same}
-use Rattle.ct_build_files.proofs.WrittenBuild.{IsAscii_digits_text}
+use Rattle.ct_build_files.proofs.PutFields.{IsAscii_digits_text, put_same}
 use Rattle.ct_build_files.proofs.written_build.put_digits.Goals as goal
 
 pub text_value-requires : goal.text_value-requires

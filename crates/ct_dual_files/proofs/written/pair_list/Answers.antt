@@ -7,7 +7,7 @@ use Rattle.toml.proofs.Views.{view-Array}
 use mir.Val.{to_z, of_z}
 use mir.Syntax.{w64}
 use Rattle.ct_fields.proofs.PushedValues.{none_pushed, pushed, all_pushed}
-use Rattle.ct_dual_files.specs.WrittenDuals.{index_pair}
+use Rattle.ct_dual_files.specs.Fields.{index_pair}
 use Rattle.ct_dual_files.proofs.written.pair_list.Goals as goal
 
 pub loop-i-init : goal.loop-i-init

@@ -1,13 +1,17 @@
-use Rattle.std.proofs.Common.{◌≡◌, ℕ, ◌^◌, ◌<◌, List, IfOk, sym, subst}
+use Rattle.std.proofs.Common.{◌≡◌, ℕ, ◌^◌, ◌<◌, List, codes, IfOk, sym, subst}
 use Rattle.std.specs.Prelude.{All}
 use Rattle.std.proofs.lemmas.Result.{IfOk-weaker}
 use Rattle.toml.specs.View.{table_view}
 use Rattle.ct_words.proofs.EntryLemmas.{entry_limits}
 use Rattle.ct_classes.specs.Partition.{words_of_classes}
 use Rattle.ct_kind.specs.declared.evidence.Evidence.TheVariants.{Words, Cosets, Partition, Build, Product, Dual, JohnsonDual, Odd, JohnsonLocal}
-use Rattle.ct_word_files.specs.WrittenWords.{words_table, cosets_table}
+use Rattle.ct_fields.specs.WrittenSchema.{written_table}
+use Rattle.ct_word_files.specs.Words.{words_fields}
+use Rattle.ct_word_files.specs.Cosets.{cosets_fields}
 use Rattle.ct_partition_files.specs.ProductKind.{Ids}
-use Rattle.ct_partition_files.specs.Written.{AreIds, partition_table, product_table}
+use Rattle.ct_partition_files.specs.Partition.{partition_fields}
+use Rattle.ct_partition_files.specs.Pairs.{AreIds}
+use Rattle.ct_partition_files.specs.Product.{product_fields}
 use Rattle.ct_files.specs.Inside.Written.{HasIds}
 use Rattle.ct_files.proofs.AtEvidence.{sound-at, table-at, ids-at}
 use Rattle.ct_files.proofs.Lengths.{IfOk-both}
@@ -61,7 +65,7 @@ build_table-requires-clause-fits c =
 pub returns-in-Words-clause-table : goal.returns-in-Words-clause-table
 returns-in-Words-clause-table c =
     table-at table_view c.args.evidence.now (Words c.in-Words.entry c.in-Words.words) c.words_table.result c.in-Words.is
-    (subst (λ (xs : List ℕ). IfOk c.words_table.result (λ t. table_view t ≡ words_table c.in-Words.entry xs)) c.as_slice.ensures
+    (subst (λ (xs : List ℕ). IfOk c.words_table.result (λ t. table_view t ≡ written_table (codes "words") (words_fields c.in-Words.entry xs))) c.as_slice.ensures
     c.words_table.ensures)
 
 pub returns-in-Cosets-clause-table : goal.returns-in-Cosets-clause-table
@@ -69,9 +73,9 @@ returns-in-Cosets-clause-table c =
     let e = c.in-Cosets.entry in
     let basis = c.as_slice-in-Cosets.result.now in
     table-at table_view c.args.evidence.now (Cosets c.in-Cosets.entry c.in-Cosets.basis c.in-Cosets.representatives) c.cosets_table.result c.in-Cosets.is
-    (subst (λ (xs : List ℕ). IfOk c.cosets_table.result (λ t. table_view t ≡ cosets_table e xs c.in-Cosets.representatives))
+    (subst (λ (xs : List ℕ). IfOk c.cosets_table.result (λ t. table_view t ≡ written_table (codes "cosets") (cosets_fields e xs c.in-Cosets.representatives)))
     c.as_slice-in-Cosets.ensures
-    (subst (λ (xs : List ℕ). IfOk c.cosets_table.result (λ t. table_view t ≡ cosets_table e basis xs)) c.as_slice-in-Cosets-2.ensures
+    (subst (λ (xs : List ℕ). IfOk c.cosets_table.result (λ t. table_view t ≡ written_table (codes "cosets") (cosets_fields e basis xs))) c.as_slice-in-Cosets-2.ensures
     c.cosets_table.ensures))
 
 pub returns-in-Partition-clause-table : goal.returns-in-Partition-clause-table
@@ -79,13 +83,13 @@ returns-in-Partition-clause-table c =
     let e = c.in-Partition.entry in
     let between = c.in-Partition.between in
     table-at table_view c.args.evidence.now (Partition e between c.in-Partition.classes) c.partition_table.result c.in-Partition.is
-    (subst (λ (cs : List (List ℕ)). IfOk c.partition_table.result (λ t. table_view t ≡ partition_table e between cs))
+    (subst (λ (cs : List (List ℕ)). IfOk c.partition_table.result (λ t. table_view t ≡ written_table (codes "partition") (partition_fields e between cs)))
     c.as_slice-in-Partition.ensures c.partition_table.ensures)
 
 pub returns-in-Product-clause-table : goal.returns-in-Product-clause-table
 returns-in-Product-clause-table c =
     table-at table_view c.args.evidence.now (Product c.in-Product.entry c.in-Product.pairs) c.product_table.result c.in-Product.is
-    (subst (λ (ps : List Ids). IfOk c.product_table.result (λ t. table_view t ≡ product_table c.in-Product.entry ps)) c.as_slice-in-Product.ensures
+    (subst (λ (ps : List Ids). IfOk c.product_table.result (λ t. table_view t ≡ written_table (codes "product") (product_fields c.in-Product.entry ps))) c.as_slice-in-Product.ensures
     c.product_table.ensures.table)
 
 pub returns-in-Product-clause-ids : goal.returns-in-Product-clause-ids

@@ -17,7 +17,7 @@ table_bytes-requires c =
     let e = c.args.document.now.evidence in
     let cites_are = c.deref.ensures.value in
     let is = c.in_ok-put_cites.ensures.table ∙ (λ i. put_cites (cites_are i) (c.in_ok-table.ensures.table i)) in
-    rw is (depth-cited c.args.document.now.cites.items _ (evidence_depth e))
+    rw is (depth-cited c.args.document.now.cites.items _ (evidence_depth e c.requires.sound c.in_ok-table.ensures.ids))
 
 pub returns-clause-without_limit : goal.returns-clause-without_limit
 returns-clause-without_limit c =

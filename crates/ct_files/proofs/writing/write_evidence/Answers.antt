@@ -8,7 +8,7 @@ use Rattle.ct_files.proofs.WrittenDocuments.{nothing_cited, document-written, do
 use Rattle.ct_files.proofs.writing.write_evidence.Goals as goal
 
 pub table_bytes-requires : goal.table_bytes-requires
-table_bytes-requires c = rw c.in_ok-table.ensures.table (evidence_depth c.args.evidence.now)
+table_bytes-requires c = rw c.in_ok-table.ensures.table (evidence_depth c.args.evidence.now c.requires c.in_ok-table.ensures.ids)
 
 pub returns-clause-without_limit : goal.returns-clause-without_limit
 returns-clause-without_limit c =

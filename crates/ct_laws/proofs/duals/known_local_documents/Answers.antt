@@ -1,10 +1,9 @@
 use Rattle.std.proofs.Common.{refl}
 use Rattle.ct_fields.specs.LastFields.{last_fields}
-use Rattle.ct_dual_files.specs.Dual.{weighted_entry_of, johnson_dual_of, local_dual_of}
 use Rattle.ct_laws.proofs.duals.known_local_documents.Goals as goal
 
 pub returns : goal.returns
-unfolding weighted_entry_of johnson_dual_of local_dual_of last_fields
+unfolding last_fields
 returns c = record {
   read = refl;
   nothing_allowed = refl;

@@ -6,7 +6,7 @@ use Rattle.toml.specs.View.{view, items_view}
 use Rattle.toml.specs.declared.value.Value.{Value}
 use Rattle.toml.proofs.Views.{view-Array}
 use Rattle.ct_partition_files.specs.Lists.{lists_behind, text_lists_of, text_lists_in}
-use Rattle.ct_partition_files.proofs.EvidenceSteps.{reads-field}
+use Rattle.ct_partition_files.proofs.ReadFields.{reads-field}
 use Rattle.ct_partition_files.proofs.lists.text_lists_field.Goals as goal
 
 pub returns-in_ok-text_lists_of-in-Some-Array : goal.returns-in_ok-text_lists_of-in-Some-Array

@@ -6,7 +6,7 @@ use Rattle.toml.specs.declared.value.Value.{Value}
 use Rattle.toml.proofs.Views.{view-Array}
 use Rattle.ct_fields.specs.declared.field.FieldName.TheVariants as name
 use Rattle.ct_partition_files.specs.Pairs.{pairs_in}
-use Rattle.ct_partition_files.proofs.EvidenceSteps.{reads-field}
+use Rattle.ct_partition_files.proofs.ReadFields.{reads-field}
 use Rattle.ct_partition_files.proofs.pairs.pairs_field.Goals as goal
 
 pub returns-in_ok-pairs_of-in-Some-Array : goal.returns-in_ok-pairs_of-in-Some-Array

@@ -1,7 +1,7 @@
 use Rattle.std.proofs.Common.{sym, ap, ◌∙◌}
 use Rattle.ct_build_files.specs.Operation.{operation_named}
 use Rattle.ct_build_files.specs.declared.operation.Operation.TheVariants.{Shorten, Translate, Complement, Select, Uuv, Juxtapose, Trim}
-use Rattle.ct_build_files.proofs.BuildFieldLemmas.{operation_named-text, operation_named-none}
+use Rattle.ct_build_files.proofs.BuildFields.{operation_named-text, operation_named-none}
 use Rattle.ct_build_files.proofs.operation.Operation.named.Goals as goal
 
 pub returns-in-shorten : goal.returns-in-shorten
